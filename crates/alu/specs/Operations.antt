@@ -1,0 +1,62 @@
+-- The sixteen operations on one accumulator, from 01, "One OP or RT word", "ALU 0 to 15" on.
+use Prim.Native.Nat.{ℕ, _+_, _-_, _*_, _/_, _%_}
+use mathlib.Core.Bool.{Bool, true, false}
+use mathlib.Core.List.{List, [], _∷_}
+use lib.Bits.{bitAnd, bitOr, bitXor}
+use lib.Dec.{eqb}
+use lib.IntN.{pos, _+ℤ_, _-ℤ_}
+use lib.ListN.{getD}
+use mir.Val.{boolByte}
+use Rattle.numbers.specs.Signed.{signed, floorDiv, kept16}
+use Rattle.alu.specs.Flags.{s0Of, carryOf, borrowOf, ov0Of, sumFlags, otherFlags}
+use Rattle.alu.specs.declared.Accumulator.{Accumulator}
+use Rattle.alu.specs.declared.Operation.{Operation}
+use Rattle.alu.specs.declared.Operation.the-variants.{None, Or, And, Xor, Sub, Add, Sbb, Adc, Dec, Inc, Cmp, Shr1, Shl1, Shl2, Shl4, Xchg}
+
+-- "ALU 0 to 15"; a larger number is no code and names no operation
+abbrev pub operations : List Operation
+operations = None ∷ Or ∷ And ∷ Xor ∷ Sub ∷ Add ∷ Sbb ∷ Adc ∷ Dec ∷ Inc ∷ Cmp ∷ Shr1 ∷ Shl1 ∷ Shl2 ∷ Shl4 ∷ Xchg ∷ []
+
+abbrev pub operationOf : ℕ → Operation
+operationOf code = getD operations code None
+
+-- "Sums are kept to 16 bits and wrap on purpose": the accumulator plus y plus a carry, and minus y minus a borrow
+unfoldable pub plus : Accumulator → ℕ → ℕ → Accumulator
+plus a y k =
+    let x = a .value in
+    let result = (x + y + k) % 65536 in
+    record { value = result; flags = sumFlags (a .flags) result (carryOf x y k) (ov0Of (signed x +ℤ signed y +ℤ pos k)) }
+
+unfoldable pub minus : Accumulator → ℕ → ℕ → Accumulator
+minus a y k =
+    let x = a .value in
+    let result = (x + 65536 - (y + k)) % 65536 in
+    record { value = result; flags = sumFlags (a .flags) result (borrowOf x y k) (ov0Of (signed x -ℤ signed y -ℤ pos k)) }
+
+-- the result of any other operation with its C
+abbrev pub other : ℕ → Bool → Accumulator
+other result c = record { value = result; flags = otherFlags result c }
+
+-- an operation on the accumulator a with the operand p; c is the other accumulator's C
+unfoldable pub operated : Operation → Accumulator → ℕ → Bool → Accumulator
+operated None a p c = a
+operated Or a p c = other (bitOr (a .value) p) false
+operated And a p c = other (bitAnd (a .value) p) false
+operated Xor a p c = other (bitXor (a .value) p) false
+operated Sub a p c = minus a p 0
+operated Add a p c = plus a p 0
+-- "SBB and ADC take the other accumulator's C"
+operated Sbb a p c = minus a p (boolByte c)
+operated Adc a p c = plus a p (boolByte c)
+operated Dec a p c = minus a 1 0
+operated Inc a p c = plus a 1 0
+-- "CMP (ones' complement)"
+operated Cmp a p c = other (65535 - a .value) false
+-- "C is the bit shifted out for SHR1 (sign kept) and SHL1 (the other accumulator's C comes in), and 0 for the rest"
+operated Shr1 a p c = other (kept16 (floorDiv (signed (a .value)) 2)) (eqb (a .value % 2) 1)
+operated Shl1 a p c = other (a .value * 2 % 65536 + boolByte c) (s0Of (a .value))
+-- "SHL2 and SHL4 bring in ones"
+operated Shl2 a p c = other (a .value * 4 % 65536 + 3) false
+operated Shl4 a p c = other (a .value * 16 % 65536 + 15) false
+-- "XCHG (bytes)"
+operated Xchg a p c = other (a .value % 256 * 256 + a .value / 256) false
