@@ -1,0 +1,50 @@
+-- Each step keeps its pointer's width; what a pointer holds, it keeps where nothing moves it.
+-- Assumes nothing.
+use Prim.Native.Nat.{ℕ, zero, suc, _+_, _-_, _*_, _/_, _%_, _≤_, _<_}
+use native.Mathlib.Omega.{arith}
+use native.Mathlib.Nat.{mod-lt, mod-eq-of-lt}
+use mathlib.Core.Path.{_≡_}
+use lib.Bits.{bitXor, xor-zero-r}
+use Rattle.device.specs.Device.{Device, rows}
+use Rattle.device.specs.Pointers.{nextAddress, romPointerDown, lowAfter, rowAfter, ramPointerMoved, ramPointerOf, romPointerOf}
+use Rattle.device.specs.declared.pointers.InstructionAddress.{InstructionAddress}
+use Rattle.device.specs.declared.pointers.RamPointer.{RamPointer}
+use Rattle.device.specs.declared.pointers.RomPointer.{RomPointer}
+
+-- the place in a row stays one
+pub lowAfter-lt : (dpl low : ℕ) → low < 16 → lowAfter dpl low < 16
+lowAfter-lt zero low h = h
+lowAfter-lt (suc zero) low h = omega arith
+lowAfter-lt (suc (suc zero)) low h = omega arith
+lowAfter-lt (suc (suc (suc zero))) low h = omega arith
+lowAfter-lt (suc (suc (suc (suc dpl)))) low h = h
+
+module _ (device : Device) where
+  pub nextAddress-fits : 0 < device .words → (pc : InstructionAddress) → nextAddress device pc .0 < device .words
+  nextAddress-fits h pc = mod-lt (pc .0 + 1) h
+
+  pub romPointerDown-fits : 0 < device .cells → (rp : RomPointer) → romPointerDown device rp .0 < device .cells
+  romPointerDown-fits h rp = mod-lt (rp .0 + (device .cells - 1)) h
+
+  pub romPointerOf-fits : 0 < device .cells → (bus : ℕ) → romPointerOf device bus .0 < device .cells
+  romPointerOf-fits h bus = mod-lt bus h
+
+  pub ramPointerOf-fits : 0 < device .ram → (bus : ℕ) → ramPointerOf device bus .0 < device .ram
+  ramPointerOf-fits h bus = mod-lt bus h
+
+  -- RAM is made of whole rows
+  module _ (whole : device .ram ≡ rows device * 16) where
+    pub ramPointerMoved-fits : 0 < rows device → (dpl dphm : ℕ) (dp : RamPointer) → ramPointerMoved device dpl dphm dp .0 < device .ram
+    unfolding ramPointerMoved
+    ramPointerMoved-fits h dpl dphm dp = omega (arith, whole, mod-lt (bitXor (dp .0 / 16) dphm) h, lowAfter-lt dpl (dp .0 % 16) (omega arith))
+
+    -- DPL 0 with DPH-M 0 keeps DP
+    pub ramPointerMoved-still : (dp : RamPointer) → dp .0 < device .ram → ramPointerMoved device 0 0 dp ≡ dp
+    unfolding ramPointerMoved
+    ramPointerMoved-still dp h = λ i. record { 0 = same i }
+      where
+        row : dp .0 / 16 < rows device
+        row = omega (arith, whole)
+
+        same : bitXor (dp .0 / 16) 0 % rows device * 16 + dp .0 % 16 ≡ dp .0
+        same = rw (xor-zero-r (dp .0 / 16), mod-eq-of-lt row) (omega arith)

@@ -1,0 +1,11 @@
+// The chip: its sizes, its three pointers, its register record.
+mod pointers;
+mod registers;
+mod sizes;
+
+pub use pointers::InstructionAddress;
+pub use pointers::RamPointer;
+pub use pointers::RomPointer;
+pub use registers::BothFlags;
+pub use registers::Registers;
+pub use sizes::Upd77p20;

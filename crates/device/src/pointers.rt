@@ -1,0 +1,91 @@
+// Three pointers of three types: none can be taken for another. Each is held wider than the chip does, so that "too wide" can be said.
+ghost use mathlib.Core.Path.{_≡_};
+ghost use Rattle.device.specs.Device.{upd77p20};
+ghost use Rattle.device.specs.Pointers.{addressFits, ramPointerFits, romPointerFits, nextAddress, romPointerDown, lowAfter, ramPointerMoved, ramPointerOf, romPointerOf};
+use crate::sizes::Upd77p20;
+
+// Counts instruction words: PC, a stack cell.
+#[repr(C)]
+pub struct InstructionAddress(pub u16);
+
+// Points at a RAM cell: DP, a row in bits 6 to 4 and a place in it.
+#[repr(C)]
+pub struct RamPointer(pub u16);
+
+// Points at a data ROM cell: RP.
+#[repr(C)]
+pub struct RomPointer(pub u16);
+
+impl InstructionAddress {
+    pub fn fits(self) -> bool
+        ensures { λ r. ⌜ r ≡ addressFits upd77p20 self ⌝ }
+    {
+        self.0 < Upd77p20::WORDS
+    }
+
+    // One word on; the last goes to 0.
+    pub fn next(self) -> InstructionAddress
+        ensures { λ r. ⌜ r ≡ nextAddress upd77p20 self ⌝ }
+    {
+        InstructionAddress(std::num::wrapping_add_u16(self.0, 1) % Upd77p20::WORDS)
+    }
+}
+
+impl RomPointer {
+    pub fn fits(self) -> bool
+        ensures { λ r. ⌜ r ≡ romPointerFits upd77p20 self ⌝ }
+    {
+        self.0 < Upd77p20::CELLS
+    }
+
+    // The low bits of a bus value.
+    pub fn of_bus(bus: u16) -> RomPointer
+        ensures { λ r. ⌜ r ≡ romPointerOf upd77p20 bus ⌝ }
+    {
+        RomPointer(bus % Upd77p20::CELLS)
+    }
+
+    // One cell down; 0 goes to the last.
+    pub fn down(self) -> RomPointer
+        ensures { λ r. ⌜ r ≡ romPointerDown upd77p20 self ⌝ }
+    {
+        RomPointer(std::num::wrapping_add_u16(self.0, Upd77p20::CELLS - 1) % Upd77p20::CELLS)
+    }
+}
+
+// The low four bits of DP after DPL.
+fn low_after(dpl: u8, low: u16) -> u16
+    ensures { λ r. ⌜ r ≡ lowAfter dpl low ⌝ }
+{
+    match dpl {
+        0 => low,
+        1 => std::num::wrapping_add_u16(low, 1) % 16,
+        2 => std::num::wrapping_add_u16(low, 15) % 16,
+        3 => 0,
+        _ => low,
+    }
+}
+
+impl RamPointer {
+    pub fn fits(self) -> bool
+        ensures { λ r. ⌜ r ≡ ramPointerFits upd77p20 self ⌝ }
+    {
+        self.0 < Upd77p20::RAM
+    }
+
+    // The low bits of a bus value.
+    pub fn of_bus(bus: u16) -> RamPointer
+        ensures { λ r. ⌜ r ≡ ramPointerOf upd77p20 bus ⌝ }
+    {
+        RamPointer(bus % Upd77p20::RAM)
+    }
+
+    // DPL for the place in the row, DPH-M for the row.
+    pub fn moved(self, dpl: u8, dphm: u8) -> RamPointer
+        ensures { λ r. ⌜ r ≡ ramPointerMoved upd77p20 dpl dphm self ⌝ }
+    {
+        let at = self.0;
+        let row = (at / 16 ^ (dphm as u16)) % Upd77p20::ROWS;
+        RamPointer(row * 16 + low_after(dpl, at % 16))
+    }
+}

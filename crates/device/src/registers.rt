@@ -1,0 +1,107 @@
+// The register record: every register of 01, and no more.
+ghost use mathlib.Core.Path.{_≡_};
+ghost use Rattle.device.specs.Device.{upd77p20};
+ghost use Rattle.device.specs.Registers.{freshRegisters, registersFit, clearFlags};
+use crate::pointers::InstructionAddress;
+use crate::pointers::RamPointer;
+use crate::pointers::RomPointer;
+use crate::sizes::Upd77p20;
+use alu::Flags;
+
+// The six flags of A, and again of B.
+#[repr(C)]
+pub struct BothFlags {
+    pub a: Flags,
+    pub b: Flags,
+}
+
+#[repr(C)]
+pub struct Registers {
+    pub pc: InstructionAddress,
+    pub stack0: InstructionAddress,
+    pub stack1: InstructionAddress,
+    pub stack2: InstructionAddress,
+    pub stack3: InstructionAddress,
+    pub depth: u8,
+    pub a: u16,
+    pub b: u16,
+    pub k: u16,
+    pub l: u16,
+    pub tr: u16,
+    pub dr: u16,
+    pub si: u16,
+    pub so: u16,
+    pub dp: RamPointer,
+    pub rp: RomPointer,
+    pub sr: u16,
+    pub flags: BothFlags,
+    pub siack: bool,
+    pub soack: bool,
+    pub sorq: bool,
+}
+
+fn clear_flags() -> Flags
+    ensures { λ r. ⌜ r ≡ clearFlags ⌝ }
+{
+    Flags {
+        s1: false,
+        s0: false,
+        c: false,
+        z: false,
+        ov1: false,
+        ov0: false,
+    }
+}
+
+impl Upd77p20 {
+    // A machine that has run nothing.
+    pub fn fresh_registers() -> Registers
+        ensures { λ r. ⌜ r ≡ freshRegisters ⌝ }
+    {
+        let start = InstructionAddress(0);
+        let flags = BothFlags {
+            a: clear_flags(),
+            b: clear_flags(),
+        };
+        Registers {
+            pc: start,
+            stack0: start,
+            stack1: start,
+            stack2: start,
+            stack3: start,
+            depth: 0,
+            a: 0,
+            b: 0,
+            k: 0,
+            l: 0,
+            tr: 0,
+            dr: 0,
+            si: 0,
+            so: 0,
+            dp: RamPointer(0),
+            rp: RomPointer(0),
+            sr: 0,
+            flags,
+            siack: false,
+            soack: false,
+            sorq: false,
+        }
+    }
+}
+
+impl Registers {
+    // Whether every register holds what the chip's could.
+    pub fn fit(self) -> bool
+        ensures { λ r. ⌜ r ≡ registersFit upd77p20 self ⌝ }
+    {
+        self.pc.fits()
+            & self.stack0.fits()
+            & self.stack1.fits()
+            & self.stack2.fits()
+            & self.stack3.fits()
+            & self.dp.fits()
+            & self.rp.fits()
+            & (self.depth <= Upd77p20::STACK)
+            & (self.sr / 4 % 32 == 0)
+    }
+}
