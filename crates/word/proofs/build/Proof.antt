@@ -1,0 +1,33 @@
+use borrow.Author.Needs.{needs}
+use Rattle.word.specs.Word.{wordHolds, wordBits, built}
+use Rattle.word.proofs.build.Statement.{statement}
+use Rattle.word.proofs.build.Tie as tie
+
+returns : tie.Need-returns
+unfolding built wordHolds wordBits
+returns c =
+    rw (c .before .before .before .before .before .word .given .1, c .built-of .ensures, c .before .op-bits .ensures, c .before .before .at .ensures, c .before .before .before .op-holds .ensures)
+
+returns-2 : tie.Need-returns-2
+unfolding built wordHolds wordBits
+returns-2 c =
+    rw (c .before .before .before .before .before .word2 .given .1, c .built-of2 .ensures, c .before .op-bits2 .ensures, c .before .before .at2 .ensures, c .before .before .before .op-holds2 .ensures)
+
+returns-3 : tie.Need-returns-3
+unfolding built wordHolds wordBits
+returns-3 c =
+    rw (c .before .before .before .before .before .word3 .given .1, c .built-of3 .ensures, c .before .jp-bits .ensures, c .before .before .at3 .ensures, c .before .before .before .jp-holds .ensures)
+
+returns-4 : tie.Need-returns-4
+unfolding built wordHolds wordBits
+returns-4 c =
+    rw (c .before .before .before .before .before .word4 .given .1, c .built-of4 .ensures, c .before .ldi-bits .ensures, c .before .before .at4 .ensures, c .before .before .before .ldi-holds .ensures)
+
+pub build-spec : {M : Type 1} → statement M
+build-spec =
+    tie.close (tie.spec (λ c. search needs) (λ c κs. search needs) (λ c κs. search needs) (λ c κs. search needs)
+    (λ c. search needs) (λ c κs. search needs) (λ c. search needs) (λ c κs. search needs) (λ c κs. search needs)
+    (λ c κs. search needs) (λ c. search needs) (λ c κs. search needs) (λ c. search needs) (λ c κs. search needs)
+    (λ c κs. search needs) (λ c κs. search needs) (λ c. search needs) (λ c κs. search needs) (λ c. search needs)
+    (λ c κs. search needs) (λ c κs. search needs) (λ c κs. search needs) (λ c. search needs) (λ c κs. search needs)
+    returns returns-2 returns-3 returns-4)

@@ -1,0 +1,11 @@
+use borrow.Author.Needs.{needs}
+use Rattle.word.proofs.jp_fields.Statement.{statement}
+use Rattle.word.proofs.jp_fields.Tie as tie
+
+returns : tie.Need-returns
+returns c = cc
+
+pub jp-fields-spec : {M : Type 1} → statement M
+jp-fields-spec =
+    tie.close (tie.spec (λ c κs. search needs) (λ c. search needs) (λ c κs. search needs) (λ c. search needs)
+    (λ c κs. search needs) (λ c. search needs) (λ c κs. search needs) (λ c. search needs) returns)

@@ -1,0 +1,11 @@
+use borrow.Author.Needs.{needs}
+use Rattle.word.proofs.jp_holds.Statement.{statement}
+use Rattle.word.proofs.jp_holds.Tie as tie
+
+returns : tie.Need-returns
+returns c = cc
+
+pub jp-holds-spec : {M : Type 1} → statement M
+jp-holds-spec =
+    tie.close (tie.spec (λ c. search needs) (λ c κs. search needs) (λ c. search needs) (λ c κs. search needs)
+    (λ c κs. search needs) (λ c. search needs) (λ c κs. search needs) returns)

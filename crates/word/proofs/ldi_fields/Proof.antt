@@ -1,0 +1,11 @@
+use borrow.Author.Needs.{needs}
+use Rattle.word.proofs.ldi_fields.Statement.{statement}
+use Rattle.word.proofs.ldi_fields.Tie as tie
+
+returns : tie.Need-returns
+returns c = cc
+
+pub ldi-fields-spec : {M : Type 1} → statement M
+ldi-fields-spec =
+    tie.close (tie.spec (λ c κs. search needs) (λ c. search needs) (λ c κs. search needs) (λ c. search needs)
+    (λ c κs. search needs) (λ c. search needs) returns)
