@@ -1,0 +1,100 @@
+-- The bench cases of 01, "Bench cases, marked to be proved", in one list. Where a case leaves a flag or an input open, it is said of every one.
+use Prim.Native.Nat.{ℕ}
+use mathlib.Core.Path.{_≡_}
+use mathlib.Core.Bool.{Bool, true, false}
+use mathlib.Core.List.{List, [], _∷_}
+use Rattle.numbers.specs.Reversal.{reversed16}
+use Rattle.alu.specs.Operations.{operated}
+use Rattle.alu.specs.declared.Accumulator.{Accumulator}
+use Rattle.alu.specs.declared.Operation.the-variants.{Add, Shr1, Shl2, Shl4}
+use Rattle.multiplier.specs.Product.{mOf, nOf}
+use Rattle.device.specs.Device.{upd77p20}
+use Rattle.device.specs.Pointers.{ramPointerMoved, romPointerDown}
+use Rattle.word.specs.Word.{takenApart}
+use Rattle.word.specs.declared.Word.the-variants.{Jp, Ldi}
+
+-- a case: its number in 01, and what it says
+pub record Case : Type 1 where
+  pub number : ℕ
+  pub says : Type 0
+
+-- every case of a list holds
+abbrev pub Hold : List Case → Type 0
+Hold [] = Unit
+Hold (case ∷ cases) = case .says × Hold cases
+
+-- an accumulator with OV1 0 and any other flags
+abbrev pub clear : ℕ → Bool → Bool → Bool → Bool → Bool → Accumulator
+clear value s1 s0 c z ov0 = record { value = value; flags = record { s1 = s1; s0 = s0; c = c; z = z; ov1 = false; ov0 = ov0 } }
+
+-- an accumulator's value, C, OV1 and S1
+abbrev pub shows : Accumulator → ℕ → Bool → Bool → Bool → Type 0
+shows a value c ov1 s1 = (a .value ≡ value) × (a .flags .c ≡ c) × (a .flags .ov1 ≡ ov1) × (a .flags .s1 ≡ s1)
+
+-- the decoding of "501000H jumps to 100H. 624681H loads A with 1234H": BRCH 100 is the jump, DST 1 is A
+unfoldable pub case2 : Case
+case2 =
+    record {
+      number = 2;
+      says =
+          (takenApart 0x501000 ≡ record { refusal = 0; word = Jp (record { brch = 4; cnd = 0; na = 0x100; spare = 0 }) })
+          × (takenApart 0x624681 ≡ record { refusal = 0; word = Ldi (record { id = 0x1234; spare = 0; dst = 1 }) });
+    }
+
+-- "K = L = 8000H: M = 8000H, N = 0. K = FFFFH, L = 1: M = FFFFH, N = FFFEH."
+unfoldable pub case3 : Case
+case3 =
+    record {
+      number = 3;
+      says = (mOf 0x8000 0x8000 ≡ 0x8000) × (nOf 0x8000 0x8000 ≡ 0) × (mOf 0xffff 1 ≡ 0xffff) × (nOf 0xffff 1 ≡ 0xfffe);
+    }
+
+-- "OV1 0, A = 7FFFH, ADD 7FFFH: FFFEH, C 0, OV1 1, S1 1. Then ADD 8000H: 7FFEH, C 1, OV1 0, S1 1."
+unfoldable pub case4 : Case
+case4 =
+    record {
+      number = 4;
+      says =
+          (s1 s0 c z ov0 other : Bool) →
+          shows (operated Add (clear 0x7fff s1 s0 c z ov0) 0x7fff other) 0xfffe false true true
+          × shows (operated Add (operated Add (clear 0x7fff s1 s0 c z ov0) 0x7fff other) 0x8000 other) 0x7ffe true false true;
+    }
+
+-- "OV1 0, A = 8000H, ADD 8000H: 0, Z 1, C 1, OV1 1, S1 0."
+unfoldable pub case5 : Case
+case5 =
+    record {
+      number = 5;
+      says =
+          (s1 s0 c z ov0 other : Bool) →
+          shows (operated Add (clear 0x8000 s1 s0 c z ov0) 0x8000 other) 0 true true false
+          × (operated Add (clear 0x8000 s1 s0 c z ov0) 0x8000 other .flags .z ≡ true);
+    }
+
+-- "SHR1 of 8001H: C000H, C 1. SHL2 of 1: 7. SHL4 of 1: 1FH."
+unfoldable pub case6 : Case
+case6 =
+    record {
+      number = 6;
+      says =
+          (s1 s0 c z ov0 other : Bool) (p : ℕ) →
+          (operated Shr1 (clear 0x8001 s1 s0 c z ov0) p other .value ≡ 0xc000)
+          × (operated Shr1 (clear 0x8001 s1 s0 c z ov0) p other .flags .c ≡ true)
+          × (operated Shl2 (clear 1 s1 s0 c z ov0) p other .value ≡ 7)
+          × (operated Shl4 (clear 1 s1 s0 c z ov0) p other .value ≡ 0x1f);
+    }
+
+-- "DP 0FH, up, DPH-M 1: 10H. RP 0 down: 511."
+unfoldable pub case7 : Case
+case7 =
+    record {
+      number = 7;
+      says = (ramPointerMoved upd77p20 1 1 (record { 0 = 0x0f }) ≡ record { 0 = 0x10 }) × (romPointerDown upd77p20 (record { 0 = 0 }) ≡ record { 0 = 511 });
+    }
+
+-- "SIL of 1: 8000H."
+unfoldable pub case8 : Case
+case8 = record { number = 8; says = reversed16 1 ≡ 0x8000 }
+
+unfoldable pub cases : List Case
+cases = case2 ∷ case3 ∷ case4 ∷ case5 ∷ case6 ∷ case7 ∷ case8 ∷ []

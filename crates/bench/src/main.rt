@@ -1,0 +1,134 @@
+// The bench cases of 01, as the compiled functions answer them: the bench staff's paper copy.
+// specs/Cases.antt has the same cases as statements about the definitions.
+mod paper;
+
+use alu::Accumulator;
+use alu::Flags;
+use alu::Operation;
+use device::RamPointer;
+use device::RomPointer;
+use paper::flag;
+use paper::register;
+use paper::text;
+use word::Word;
+
+// 2: what the two words hold. BRCH 4 is the jump, DST 1 is A.
+fn words() {
+    let jump = word::take_apart(0x501000);
+    let row = jump.word;
+    if let Word::Jp(f) = row {
+        register(2, b"501000H: BRCH             ", 4, f.brch as u16);
+        register(2, b"501000H: NA               ", 0x100, f.na);
+    } else {
+        text(b"  2   501000H is no JP word   DIFFERS\n");
+    }
+    let load = word::take_apart(0x624681);
+    let row = load.word;
+    if let Word::Ldi(f) = row {
+        register(2, b"624681H: ID               ", 0x1234, f.id);
+        register(2, b"624681H: DST              ", 1, f.dst as u16);
+    } else {
+        text(b"  2   624681H is no LDI word  DIFFERS\n");
+    }
+}
+
+// 3: the two products.
+fn products() {
+    register(
+        3,
+        b"8000H times 8000H: M      ",
+        0x8000,
+        multiplier::m(0x8000, 0x8000),
+    );
+    register(
+        3,
+        b"8000H times 8000H: N      ",
+        0,
+        multiplier::n(0x8000, 0x8000),
+    );
+    register(
+        3,
+        b"FFFFH times 1: M          ",
+        0xffff,
+        multiplier::m(0xffff, 1),
+    );
+    register(
+        3,
+        b"FFFFH times 1: N          ",
+        0xfffe,
+        multiplier::n(0xffff, 1),
+    );
+}
+
+// A value with all six flags 0.
+fn clear(value: u16) -> Accumulator {
+    Accumulator {
+        value,
+        flags: Flags {
+            s1: false,
+            s0: false,
+            c: false,
+            z: false,
+            ov1: false,
+            ov0: false,
+        },
+    }
+}
+
+// 4 and 5: sums that leave 16 bits.
+fn sums() {
+    let a = alu::operate(Operation::Add, clear(0x7fff), 0x7fff, false);
+    let f = a.flags;
+    register(4, b"7FFFH ADD 7FFFH: A        ", 0xfffe, a.value);
+    flag(4, b"7FFFH ADD 7FFFH: C        ", false, f.c);
+    flag(4, b"7FFFH ADD 7FFFH: OV1      ", true, f.ov1);
+    flag(4, b"7FFFH ADD 7FFFH: S1       ", true, f.s1);
+    let a = alu::operate(Operation::Add, a, 0x8000, false);
+    let f = a.flags;
+    register(4, b"then ADD 8000H: A         ", 0x7ffe, a.value);
+    flag(4, b"then ADD 8000H: C         ", true, f.c);
+    flag(4, b"then ADD 8000H: OV1       ", false, f.ov1);
+    flag(4, b"then ADD 8000H: S1        ", true, f.s1);
+    let a = alu::operate(Operation::Add, clear(0x8000), 0x8000, false);
+    let f = a.flags;
+    register(5, b"8000H ADD 8000H: A        ", 0, a.value);
+    flag(5, b"8000H ADD 8000H: Z        ", true, f.z);
+    flag(5, b"8000H ADD 8000H: C        ", true, f.c);
+    flag(5, b"8000H ADD 8000H: OV1      ", true, f.ov1);
+    flag(5, b"8000H ADD 8000H: S1       ", false, f.s1);
+}
+
+// 6: shifts.
+fn shifts() {
+    let a = alu::operate(Operation::Shr1, clear(0x8001), 0, false);
+    let f = a.flags;
+    register(6, b"SHR1 of 8001H: A          ", 0xc000, a.value);
+    flag(6, b"SHR1 of 8001H: C          ", true, f.c);
+    let a = alu::operate(Operation::Shl2, clear(1), 0, false);
+    register(6, b"SHL2 of 1: A              ", 7, a.value);
+    let a = alu::operate(Operation::Shl4, clear(1), 0, false);
+    register(6, b"SHL4 of 1: A              ", 0x1f, a.value);
+}
+
+// 7: pointers.
+fn pointers() {
+    let dp = RamPointer(0x0f).moved(1, 1);
+    register(7, b"DP 0FH, up, DPH-M 1: DP   ", 0x10, dp.0);
+    let rp = RomPointer(0).down();
+    register(7, b"RP 0 down: RP             ", 511, rp.0);
+}
+
+fn main() {
+    text(b"case  what                        expected  found\n");
+    words();
+    products();
+    sums();
+    shifts();
+    pointers();
+    register(
+        8,
+        b"SIL of 1                  ",
+        0x8000,
+        numbers::reverse16(1),
+    );
+}
