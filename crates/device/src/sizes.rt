@@ -17,7 +17,7 @@ impl Upd77p20 {
 
     pub const RAM: u16 = 128;
 
-    pub const ROWS: u16 = 8;
+    pub const ROWS: u16 = Upd77p20::RAM / 16;
 
     pub const STACK: u8 = 4;
 

@@ -21,14 +21,14 @@ pub fn keep16(z: i32) -> u16
 fn reverse_byte(x: u16) -> u16
     ensures { λ r. ⌜ r ≡ reversed 8 x ⌝ }
 {
-    x % 2 * 128
-        + x / 2 % 2 * 64
-        + x / 4 % 2 * 32
-        + x / 8 % 2 * 16
-        + x / 16 % 2 * 8
-        + x / 32 % 2 * 4
-        + x / 64 % 2 * 2
-        + x / 128 % 2
+    x % 2 * 0x80
+        + x / 0x02 % 2 * 0x40
+        + x / 0x04 % 2 * 0x20
+        + x / 0x08 % 2 * 0x10
+        + x / 0x10 % 2 * 0x08
+        + x / 0x20 % 2 * 0x04
+        + x / 0x40 % 2 * 0x02
+        + x / 0x80 % 2
 }
 
 // All 16 bits of x in reverse order.

@@ -2,7 +2,7 @@
 -- Assumes nothing.
 use mathlib.Core.Path.{_≡_, refl}
 use mathlib.Core.Bool.{Bool, true, false, not, _&&_, _||_, Bool·beq}
-use Rattle.alu.specs.Flags.{s0Of, s1Of, ov1Of, sumFlags}
+use Rattle.alu.specs.Flags.{s0Of, zOf, s1Of, ov1Of, sumFlags}
 use Rattle.alu.proofs.flags_of_sum.Statement.{statement}
 use Rattle.alu.proofs.flags_of_sum.Tie as tie
 
@@ -29,9 +29,10 @@ ov1-straight true s1 s0 false = refl
 returns : tie.Need-returns
 unfolding sumFlags
 returns c =
-    let f = c .before .args .before in
-    let s0 = s0Of (c .before .args .result) in
-    rw (s1-straight (f .ov1) (f .s1) s0, ov1-straight (f .ov1) (f .s1) s0 (c .before .args .ov0))
+    let before = c .before .args .before in
+    let result = c .before .args .result in
+    let ov0 = c .before .args .ov0 in
+    λ i. record { s1 = s1-straight (before .ov1) (before .s1) (s0Of result) i; s0 = s0Of result; c = c .before .args .c; z = zOf result; ov1 = ov1-straight (before .ov1) (before .s1) (s0Of result) ov0 i; ov0 = ov0 }
 
 pub flags-of-sum-spec : {M : Type 1} → statement M
 flags-of-sum-spec = tie.close (tie.spec returns)

@@ -3,7 +3,8 @@ use Rattle.word.proofs.jp_fields.Statement.{statement}
 use Rattle.word.proofs.jp_fields.Tie as tie
 
 returns : tie.Need-returns
-returns c = cc
+returns c =
+    rw (c .bits4 .ensures, c .before .bits3 .ensures, c .before .before .bits2 .ensures, c .before .before .before .bits .ensures)
 
 pub jp-fields-spec : {M : Type 1} → statement M
 jp-fields-spec =

@@ -3,7 +3,13 @@ use Rattle.word.proofs.jp_holds.Statement.{statement}
 use Rattle.word.proofs.jp_holds.Tie as tie
 
 returns : tie.Need-returns
-returns c = cc
+returns c =
+    rw (
+      c .holds4 .ensures,
+      c .before .before .holds3 .ensures,
+      c .before .before .before .holds2 .ensures,
+      c .before .before .before .before .before .holds .ensures,
+    )
 
 pub jp-holds-spec : {M : Type 1} → statement M
 jp-holds-spec =

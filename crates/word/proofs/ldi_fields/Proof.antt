@@ -3,7 +3,8 @@ use Rattle.word.proofs.ldi_fields.Statement.{statement}
 use Rattle.word.proofs.ldi_fields.Tie as tie
 
 returns : tie.Need-returns
-returns c = cc
+returns c =
+    rw (c .bits3 .ensures, c .before .bits2 .ensures, c .before .before .bits .ensures)
 
 pub ldi-fields-spec : {M : Type 1} → statement M
 ldi-fields-spec =

@@ -3,7 +3,8 @@ use Rattle.word.proofs.ldi_holds.Statement.{statement}
 use Rattle.word.proofs.ldi_holds.Tie as tie
 
 returns : tie.Need-returns
-returns c = cc
+returns c =
+    rw (c .holds3 .ensures, c .before .before .holds2 .ensures, c .before .before .before .before .holds .ensures)
 
 pub ldi-holds-spec : {M : Type 1} → statement M
 ldi-holds-spec =

@@ -3,7 +3,17 @@ use Rattle.word.proofs.op_fields.Statement.{statement}
 use Rattle.word.proofs.op_fields.Tie as tie
 
 returns : tie.Need-returns
-returns c = cc
+returns c =
+    rw (
+      c .bits8 .ensures,
+      c .before .bits7 .ensures,
+      c .before .before .bits6 .ensures,
+      c .before .before .before .bits5 .ensures,
+      c .before .before .before .before .bits4 .ensures,
+      c .before .before .before .before .before .bits3 .ensures,
+      c .before .before .before .before .before .before .bits2 .ensures,
+      c .before .before .before .before .before .before .before .bits .ensures,
+    )
 
 pub op-fields-spec : {M : Type 1} → statement M
 op-fields-spec =
