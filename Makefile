@@ -3,7 +3,7 @@
 
 CARGO = cargo --offline --quiet
 
-.PHONY: run test compare lib refusals clean
+.PHONY: run test generated compare lib count refusals clean
 
 # The bench list: what the rules expect and what the compiled functions answer.
 run:
@@ -13,8 +13,12 @@ run:
 	@./target/bin/bench
 
 # The comparison first: rt ci starts from nothing and has the last word.
-test: compare
+test: generated compare
 	@rt ci
+
+# Definitions that a script writes are what it writes.
+generated:
+	@tools/setters --check
 
 # The proved arithmetic against the independent emulator.
 compare: lib
@@ -25,6 +29,12 @@ compare: lib
 lib:
 	@mkdir -p target
 	@rt staticlib probe >target/lib.log 2>&1 || { cat target/lib.log >&2; exit 1; }
+
+# Instructions a word on the mixing loop, by callgrind; installs valgrind where it is missing.
+count: lib
+	@command -v valgrind >/dev/null || apt-get install --yes --quiet valgrind >/dev/null
+	@cd host && $(CARGO) build --release --package compare
+	@tools/count
 
 # Tries the must-fail edits and prints why each is refused.
 refusals:

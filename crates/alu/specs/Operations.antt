@@ -11,6 +11,8 @@ use Rattle.numbers.specs.Signed.{signed, floorDiv, kept16}
 use Rattle.alu.specs.Flags.{s0Of, carryOf, borrowOf, ov0Of, sumFlags, otherFlags}
 use Rattle.alu.specs.declared.Accumulator.{Accumulator}
 use Rattle.alu.specs.declared.Operation.{Operation}
+use Rattle.alu.specs.declared.Plan.{Plan}
+use Rattle.alu.specs.declared.Plan.the-variants.{Keep, Plus, Minus, Other}
 use Rattle.alu.specs.declared.Operation.the-variants.{None, Or, And, Xor, Sub, Add, Sbb, Adc, Dec, Inc, Cmp, Shr1, Shl1, Shl2, Shl4, Xchg}
 
 -- "ALU 0 to 15"; a larger number is no code and names no operation
@@ -60,3 +62,29 @@ operated Shl2 a p c = other (a .value * 4 % 65536 + 3) false
 operated Shl4 a p c = other (a .value * 16 % 65536 + 15) false
 -- "XCHG (bytes)"
 operated Xchg a p c = other (a .value % 256 * 256 + a .value / 256) false
+
+-- What the operation makes of its inputs: nothing, a sum, a difference, or a result with its C. The code goes this way;
+-- alu/proofs/Plans.antt has the law that it is the same.
+abbrev pub planOf : Operation → ℕ → ℕ → Bool → Plan
+planOf None x p c = Keep
+planOf Or x p c = Other (bitOr x p) false
+planOf And x p c = Other (bitAnd x p) false
+planOf Xor x p c = Other (bitXor x p) false
+planOf Sub x p c = Minus p false
+planOf Add x p c = Plus p false
+planOf Sbb x p c = Minus p c
+planOf Adc x p c = Plus p c
+planOf Dec x p c = Minus 1 false
+planOf Inc x p c = Plus 1 false
+planOf Cmp x p c = Other (65535 - x) false
+planOf Shr1 x p c = Other (kept16 (floorDiv (signed x) 2)) (eqb (x % 2) 1)
+planOf Shl1 x p c = Other (x * 2 % 65536 + boolByte c) (s0Of x)
+planOf Shl2 x p c = Other (x * 4 % 65536 + 3) false
+planOf Shl4 x p c = Other (x * 16 % 65536 + 15) false
+planOf Xchg x p c = Other (x % 256 * 256 + x / 256) false
+
+abbrev pub carriedOut : Plan → Accumulator → Accumulator
+carriedOut Keep a = a
+carriedOut (Plus y c) a = plus a y (boolByte c)
+carriedOut (Minus y c) a = minus a y (boolByte c)
+carriedOut (Other value c) a = other value c

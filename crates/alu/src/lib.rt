@@ -1,10 +1,11 @@
 // One operation on one accumulator, with its six flags. Knows no machine.
 ghost use mathlib.Core.Path.{_≡_};
 ghost use Prim.Native.Nat.{_+_, _%_, _≤_};
+ghost use mir.Val.{boolByte};
 ghost use lib.IntN.{pos, _+ℤ_, _-ℤ_};
 ghost use Rattle.numbers.specs.Signed.{signed, kept16, floorDiv};
 ghost use Rattle.alu.specs.Flags.{carryOf, borrowOf, ov0Of, sumFlags};
-ghost use Rattle.alu.specs.Operations.{operationOf, plus, minus, other, operated};
+ghost use Rattle.alu.specs.Operations.{operationOf, plus, minus, other, planOf, operated};
 
 #[repr(C)]
 pub struct Flags {
@@ -39,6 +40,14 @@ pub enum Operation {
     Shl2,
     Shl4,
     Xchg,
+}
+
+// What an operation makes of its inputs: nothing, a sum or a difference with its carry, or a result with its C.
+pub enum Plan {
+    Keep,
+    Plus(u16, bool),
+    Minus(u16, bool),
+    Other(u16, bool),
 }
 
 impl Operation {
@@ -122,10 +131,11 @@ fn flags_of_sum(before: Flags, result: u16, c: bool, ov0: bool) -> Flags
     }
 }
 
-fn add(a: Accumulator, y: u16, k: u16) -> Accumulator
-    requires { ⌜ k ≤ 1 ⌝ }
-    ensures { λ r. ⌜ r ≡ plus a y k ⌝ }
+// The accumulator plus y and a carry.
+pub fn add(a: Accumulator, y: u16, c: bool) -> Accumulator
+    ensures { λ r. ⌜ r ≡ plus a y (boolByte c) ⌝ }
 {
+    let k = c as u16;
     let x = a.value;
     let before = a.flags;
     let value = std::num::wrapping_add_u16(std::num::wrapping_add_u16(x, y), k);
@@ -133,10 +143,11 @@ fn add(a: Accumulator, y: u16, k: u16) -> Accumulator
     Accumulator { value, flags }
 }
 
-fn subtract(a: Accumulator, y: u16, k: u16) -> Accumulator
-    requires { ⌜ k ≤ 1 ⌝ }
-    ensures { λ r. ⌜ r ≡ minus a y k ⌝ }
+// The accumulator minus y and a borrow.
+pub fn subtract(a: Accumulator, y: u16, c: bool) -> Accumulator
+    ensures { λ r. ⌜ r ≡ minus a y (boolByte c) ⌝ }
 {
+    let k = c as u16;
     let x = a.value;
     let before = a.flags;
     let value = std::num::wrapping_sub_u16(std::num::wrapping_sub_u16(x, y), k);
@@ -145,7 +156,7 @@ fn subtract(a: Accumulator, y: u16, k: u16) -> Accumulator
 }
 
 // The result of an operation that is no sum, with its C.
-fn other_result(value: u16, c: bool) -> Accumulator
+pub fn other_result(value: u16, c: bool) -> Accumulator
     ensures { λ r. ⌜ r ≡ other value c ⌝ }
 {
     let s0 = 32768 <= value;
@@ -169,28 +180,41 @@ fn half(x: u16) -> u16
     numbers::keep16(numbers::sign_extend(x) >> 1)
 }
 
+impl Plan {
+    // The plan of an operation on the value x with the operand p; c is the other accumulator's C.
+    pub fn of(operation: Operation, x: u16, p: u16, c: bool) -> Plan
+        ensures { λ r. ⌜ r ≡ planOf operation x p c ⌝ }
+    {
+        match operation {
+            Operation::None => Plan::Keep,
+            Operation::Or => Plan::Other(x | p, false),
+            Operation::And => Plan::Other(x & p, false),
+            Operation::Xor => Plan::Other(x ^ p, false),
+            Operation::Sub => Plan::Minus(p, false),
+            Operation::Add => Plan::Plus(p, false),
+            Operation::Sbb => Plan::Minus(p, c),
+            Operation::Adc => Plan::Plus(p, c),
+            Operation::Dec => Plan::Minus(1, false),
+            Operation::Inc => Plan::Plus(1, false),
+            Operation::Cmp => Plan::Other(!x, false),
+            Operation::Shr1 => Plan::Other(half(x), x % 2 == 1),
+            Operation::Shl1 => Plan::Other((x << 1) + (c as u16), 32768 <= x),
+            Operation::Shl2 => Plan::Other((x << 2) + 3, false),
+            Operation::Shl4 => Plan::Other((x << 4) + 15, false),
+            Operation::Xchg => Plan::Other(x % 256 * 256 + x / 256, false),
+        }
+    }
+}
+
 // An operation on the accumulator a with the operand p; c is the other accumulator's C.
 pub fn operate(operation: Operation, a: Accumulator, p: u16, c: bool) -> Accumulator
     ensures { λ r. ⌜ r ≡ operated operation a p c ⌝ }
 {
-    let x = a.value;
-    let k = c as u16;
-    match operation {
-        Operation::None => a,
-        Operation::Or => other_result(x | p, false),
-        Operation::And => other_result(x & p, false),
-        Operation::Xor => other_result(x ^ p, false),
-        Operation::Sub => subtract(a, p, 0),
-        Operation::Add => add(a, p, 0),
-        Operation::Sbb => subtract(a, p, k),
-        Operation::Adc => add(a, p, k),
-        Operation::Dec => subtract(a, 1, 0),
-        Operation::Inc => add(a, 1, 0),
-        Operation::Cmp => other_result(!x, false),
-        Operation::Shr1 => other_result(half(x), x % 2 == 1),
-        Operation::Shl1 => other_result((x << 1) + k, 32768 <= x),
-        Operation::Shl2 => other_result((x << 2) + 3, false),
-        Operation::Shl4 => other_result((x << 4) + 15, false),
-        Operation::Xchg => other_result(x % 256 * 256 + x / 256, false),
+    let plan = Plan::of(operation, a.value, p, c);
+    match plan {
+        Plan::Keep => a,
+        Plan::Plus(y, carry) => add(a, y, carry),
+        Plan::Minus(y, borrow) => subtract(a, y, borrow),
+        Plan::Other(value, carry) => other_result(value, carry),
     }
 }

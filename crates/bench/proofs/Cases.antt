@@ -1,18 +1,37 @@
 -- Every bench case holds of the definitions: each is computed.
 -- Assumes nothing.
-use mathlib.Core.Path.{refl}
+use Prim.Native.Nat.{ℕ}
+use native.Mathlib.Omega.{arith}
+use mathlib.Core.Path.{_≡_, refl, ap, _∙_}
+use mathlib.Core.Bool.{false}
+use Rattle.numbers.specs.Bits.{bits}
 use Rattle.numbers.specs.Signed.{signed, leaves, floorDiv, floorMod}
 use Rattle.numbers.specs.Reversal.{reversed}
 use Rattle.alu.specs.Flags.{sumFlags}
 use Rattle.alu.specs.Operations.{plus, operated}
 use Rattle.multiplier.specs.Product.{product, mOf, nOf}
 use Rattle.device.specs.Pointers.{ramPointerMoved}
+use Rattle.device.specs.declared.registers.Registers.{Registers}
 use Rattle.word.specs.Word.{wordOf, takenApart}
-use Rattle.bench.specs.Cases.{Hold, cases, case2, case3, case4, case5, case6, case7, case8}
+use Rattle.status.specs.Status.{drc, drs, withDrs}
+use Rattle.stages.specs.Bus.{busOf}
+use Rattle.stages.specs.Destinations.{loaded, ramLoaded}
+use Rattle.words.specs.Refusals.{jpRefusal, ldiRefusal}
+use Rattle.words.specs.Jump.{jpRegisters, jpWord}
+use Rattle.words.specs.Load.{ldiWord}
+use Rattle.words.specs.Word.{fetchedDone, wordDone}
+use Rattle.words.proofs.Frames.{word-0}
+use Rattle.machine.specs.Host.{statusAccessed, byteRead, hostRead}
+use Rattle.machine.proofs.Frames.{host-read-done, byte-handed}
+use Rattle.bench.specs.Cases.{Hold, cases, case1, case2, case3, case4, case5, case6, case7, case8, case9}
+
+holds1 : case1 .says
+unfolding case1
+holds1 = word-0
 
 holds2 : case2 .says
-unfolding case2 wordOf takenApart
-holds2 = (refl, refl)
+unfolding case2 wordOf takenApart wordDone fetchedDone jpWord jpRefusal jpRegisters ldiWord ldiRefusal loaded ramLoaded
+holds2 = (refl, refl, (λ r program rom ram e. rw e), (λ r program rom ram e. rw e))
 
 holds3 : case3 .says
 unfolding case3 signed floorDiv floorMod product mOf nOf
@@ -35,9 +54,24 @@ unfolding case7 ramPointerMoved
 holds7 = (refl, refl)
 
 holds8 : case8 .says
-unfolding case8 reversed
-holds8 = refl
+unfolding case8 busOf reversed
+holds8 = λ r ram rom e. rw e
+
+-- the first access leaves DRC as it is and sets DRS
+drs-set : (sr : ℕ) → (bits (withDrs sr) 10 10 ≡ bits sr 10 10) × (bits (withDrs sr) 12 12 ≡ 1)
+drs-set sr = (omega arith, omega arith)
+
+low-then-high : (r : Registers) → r .dr ≡ 0x1234 → drc (r .sr) ≡ false → drs (r .sr) ≡ false → (byteRead r ≡ 0x34) × (byteRead (hostRead r) ≡ 0x12)
+unfolding byteRead statusAccessed
+low-then-high r d c s = rw (c, s, d, drs-set (r .sr) .0, drs-set (r .sr) .1, c) (refl, refl)
+
+holds9 : case9 .says
+unfolding case9
+holds9 = λ r program rom ram d c s e₁ e₂.
+    let done = host-read-done r program rom ram 0 e₁ in
+    let both = low-then-high r d c s in
+    (byte-handed r program rom ram 0 e₁ ∙ both .0, byte-handed _ program rom ram 0 e₂ ∙ ap (λ x. byteRead (x .registers)) done ∙ both .1)
 
 pub bench : Hold cases
 unfolding cases
-bench = (holds2, (holds3, (holds4, (holds5, (holds6, (holds7, (holds8, tt)))))))
+bench = (holds1, (holds2, (holds3, (holds4, (holds5, (holds6, (holds7, (holds8, (holds9, tt)))))))))

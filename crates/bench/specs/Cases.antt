@@ -3,15 +3,23 @@ use Prim.Native.Nat.{ℕ}
 use mathlib.Core.Path.{_≡_}
 use mathlib.Core.Bool.{Bool, true, false}
 use mathlib.Core.List.{List, [], _∷_}
-use Rattle.numbers.specs.Reversal.{reversed16}
 use Rattle.alu.specs.Operations.{operated}
 use Rattle.alu.specs.declared.Accumulator.{Accumulator}
 use Rattle.alu.specs.declared.Operation.the-variants.{Add, Shr1, Shl2, Shl4}
 use Rattle.multiplier.specs.Product.{mOf, nOf}
 use Rattle.device.specs.Device.{upd77p20}
-use Rattle.device.specs.Pointers.{ramPointerMoved, romPointerDown}
+use Rattle.device.specs.Lent.{cellAt}
+use Rattle.device.specs.Pointers.{nextAddress, ramPointerMoved, romPointerDown}
+use Rattle.device.specs.Set.{set-pc, set-a}
+use Rattle.device.specs.declared.registers.Registers.{Registers}
 use Rattle.word.specs.Word.{takenApart}
 use Rattle.word.specs.declared.Word.the-variants.{Jp, Ldi}
+use Rattle.status.specs.Status.{drc, drs}
+use Rattle.stages.specs.Bus.{busOf}
+use Rattle.stages.specs.declared.codes.Source.the-variants.{Sil}
+use Rattle.words.specs.Outcomes.{finishedWord}
+use Rattle.words.specs.Word.{wordDone}
+use Rattle.machine.specs.Events.{eventDone}
 
 -- a case: its number in 01, and what it says
 pub record Case : Type 1 where
@@ -31,14 +39,28 @@ clear value s1 s0 c z ov0 = record { value = value; flags = record { s1 = s1; s0
 abbrev pub shows : Accumulator → ℕ → Bool → Bool → Bool → Type 0
 shows a value c ov1 s1 = (a .value ≡ value) × (a .flags .c ≡ c) × (a .flags .ov1 ≡ ov1) × (a .flags .s1 ≡ s1)
 
--- the decoding of "501000H jumps to 100H. 624681H loads A with 1234H": BRCH 100 is the jump, DST 1 is A
+-- "Of RAM and the registers listed in this paper, word 0 changes PC only."
+unfoldable pub case1 : Case
+case1 =
+    record {
+      number = 1;
+      says =
+          (r : Registers) (program rom ram : List ℕ) → cellAt program (r .pc .0) ≡ 0
+          → wordDone r program rom ram ≡ finishedWord (set-pc r (nextAddress upd77p20 (r .pc))) ram;
+    }
+
+-- "501000H jumps to 100H. 624681H loads A with 1234H.": as fields (BRCH 100 is the jump, DST 1 is A), and run
 unfoldable pub case2 : Case
 case2 =
     record {
       number = 2;
       says =
           (takenApart 0x501000 ≡ record { refusal = 0; word = Jp (record { brch = 4; cnd = 0; na = 0x100; spare = 0 }) })
-          × (takenApart 0x624681 ≡ record { refusal = 0; word = Ldi (record { id = 0x1234; spare = 0; dst = 1 }) });
+          × (takenApart 0x624681 ≡ record { refusal = 0; word = Ldi (record { id = 0x1234; spare = 0; dst = 1 }) })
+          × ((r : Registers) (program rom ram : List ℕ) → cellAt program (r .pc .0) ≡ 0x501000
+          → wordDone r program rom ram ≡ finishedWord (set-pc r (record { 0 = 0x100 })) ram)
+          × ((r : Registers) (program rom ram : List ℕ) → cellAt program (r .pc .0) ≡ 0x624681
+          → wordDone r program rom ram ≡ finishedWord (set-pc (set-a r 0x1234) (nextAddress upd77p20 (r .pc))) ram);
     }
 
 -- "K = L = 8000H: M = 8000H, N = 0. K = FFFFH, L = 1: M = FFFFH, N = FFFEH."
@@ -89,12 +111,23 @@ unfoldable pub case7 : Case
 case7 =
     record {
       number = 7;
-      says = (ramPointerMoved upd77p20 1 1 (record { 0 = 0x0f }) ≡ record { 0 = 0x10 }) × (romPointerDown upd77p20 (record { 0 = 0 }) ≡ record { 0 = 511 });
+      says = (ramPointerMoved 1 1 (record { 0 = 0x0f }) ≡ record { 0 = 0x10 }) × (romPointerDown upd77p20 (record { 0 = 0 }) ≡ record { 0 = 511 });
     }
 
 -- "SIL of 1: 8000H."
 unfoldable pub case8 : Case
-case8 = record { number = 8; says = reversed16 1 ≡ 0x8000 }
+case8 = record { number = 8; says = (r : Registers) (ram rom : List ℕ) → r .si ≡ 1 → busOf r Sil ram rom ≡ 0x8000 }
+
+-- "DR 1234H, DRC 0, DRS 0: the host reads 34H, then 12H."
+unfoldable pub case9 : Case
+case9 =
+    record {
+      number = 9;
+      says =
+          (r : Registers) (program rom ram : List ℕ) → r .dr ≡ 0x1234 → drc (r .sr) ≡ false → drs (r .sr) ≡ false
+          → eventDone r program rom ram 1 0 .number ≡ 0 → eventDone (eventDone r program rom ram 1 0 .registers) program rom ram 1 0 .number ≡ 0
+          → (eventDone r program rom ram 1 0 .value ≡ 0x34) × (eventDone (eventDone r program rom ram 1 0 .registers) program rom ram 1 0 .value ≡ 0x12);
+    }
 
 unfoldable pub cases : List Case
-cases = case2 ∷ case3 ∷ case4 ∷ case5 ∷ case6 ∷ case7 ∷ case8 ∷ []
+cases = case1 ∷ case2 ∷ case3 ∷ case4 ∷ case5 ∷ case6 ∷ case7 ∷ case8 ∷ case9 ∷ []

@@ -6,11 +6,63 @@ use alu::Accumulator;
 use alu::Flags;
 use alu::Operation;
 use device::RamPointer;
+use device::Registers;
 use device::RomPointer;
+use device::Upd77p20;
+use machine::Answer;
 use paper::flag;
 use paper::register;
 use paper::text;
 use word::Word;
+
+// One word, alone in its program, run from given registers.
+fn run_one(r: Registers, word: u32) -> Answer {
+    let mut program = [0u32; Upd77p20::WORDS as usize];
+    program[0] = word;
+    let rom = [0u16; Upd77p20::CELLS as usize];
+    let mut ram = [0u16; Upd77p20::RAM as usize];
+    machine::event(r, &program, &rom, &mut ram, 0, 1)
+}
+
+// 1: word 0 on registers that are not 0.
+fn word_0() {
+    let mut r = Upd77p20::fresh_registers();
+    r.a = 0x1234;
+    let dp = RamPointer(0x7f);
+    r.dp = dp;
+    r.sr = 0x8080;
+    let answer = run_one(r, 0);
+    let q = answer.registers;
+    register(1, b"word 0: words done        ", 1, answer.words);
+    register(1, b"word 0: PC                ", 1, q.pc.0);
+    register(1, b"word 0: A, 1234H before   ", 0x1234, q.a);
+    register(1, b"word 0: DP, 7FH before    ", 0x7f, q.dp.0);
+    register(1, b"word 0: SR, 8080H before  ", 0x8080, q.sr);
+}
+
+// 2: what the two words do.
+fn jump_and_load() {
+    let jumped = run_one(Upd77p20::fresh_registers(), 0x501000);
+    let q = jumped.registers;
+    register(2, b"501000H run: PC           ", 0x100, q.pc.0);
+    let loaded = run_one(Upd77p20::fresh_registers(), 0x624681);
+    let q = loaded.registers;
+    register(2, b"624681H run: A            ", 0x1234, q.a);
+}
+
+// 9: two bytes for the host.
+fn host_reads() {
+    let program = [0u32; Upd77p20::WORDS as usize];
+    let rom = [0u16; Upd77p20::CELLS as usize];
+    let mut ram = [0u16; Upd77p20::RAM as usize];
+    let mut r = Upd77p20::fresh_registers();
+    r.dr = 0x1234;
+    let low = machine::event(r, &program, &rom, &mut ram, 1, 0);
+    register(9, b"DR 1234H: first byte      ", 0x34, low.value);
+    let q = low.registers;
+    let high = machine::event(q, &program, &rom, &mut ram, 1, 0);
+    register(9, b"DR 1234H: second byte     ", 0x12, high.value);
+}
 
 // 2: what the two words hold. BRCH 4 is the jump, DST 1 is A.
 fn words() {
@@ -120,7 +172,9 @@ fn pointers() {
 
 fn main() {
     text(b"case  what                        expected  found\n");
+    word_0();
     words();
+    jump_and_load();
     products();
     sums();
     shifts();
@@ -131,4 +185,5 @@ fn main() {
         0x8000,
         numbers::reverse16(1),
     );
+    host_reads();
 }

@@ -1,12 +1,12 @@
 -- Each step keeps its pointer's width; what a pointer holds, it keeps where nothing moves it.
 -- Assumes nothing.
-use Prim.Native.Nat.{ℕ, zero, suc, _+_, _-_, _*_, _/_, _%_, _≤_, _<_}
+use Prim.Native.Nat.{ℕ, zero, suc, _+_, _-_, _*_, _/_, _%_, _^_, _<_}
 use native.Mathlib.Omega.{arith}
-use native.Mathlib.Nat.{mod-lt, mod-eq-of-lt}
+use native.Mathlib.Nat.{mod-lt}
 use mathlib.Core.Path.{_≡_}
-use lib.Bits.{bitXor, xor-zero-r}
-use Rattle.device.specs.Device.{Device, rows}
-use Rattle.device.specs.Pointers.{nextAddress, romPointerDown, lowAfter, rowAfter, ramPointerMoved, ramPointerOf, romPointerOf}
+use lib.Bits.{bitXor, xor-lt, xor-zero-r}
+use Rattle.device.specs.Device.{Device}
+use Rattle.device.specs.Pointers.{nextAddress, romPointerDown, lowAfter, ramPointerMoved, ramPointerOf, romPointerOf}
 use Rattle.device.specs.declared.pointers.InstructionAddress.{InstructionAddress}
 use Rattle.device.specs.declared.pointers.RamPointer.{RamPointer}
 use Rattle.device.specs.declared.pointers.RomPointer.{RomPointer}
@@ -32,19 +32,15 @@ module _ (device : Device) where
   pub ramPointerOf-fits : 0 < device .ram → (bus : ℕ) → ramPointerOf device bus .0 < device .ram
   ramPointerOf-fits h bus = mod-lt bus h
 
-  -- RAM is made of whole rows
-  module _ (whole : device .ram ≡ rows device * 16) where
-    pub ramPointerMoved-fits : 0 < rows device → (dpl dphm : ℕ) (dp : RamPointer) → ramPointerMoved device dpl dphm dp .0 < device .ram
-    unfolding ramPointerMoved
-    ramPointerMoved-fits h dpl dphm dp = omega (arith, whole, mod-lt (bitXor (dp .0 / 16) dphm) h, lowAfter-lt dpl (dp .0 % 16) (omega arith))
+-- RAM is made of 2 ^ k rows of 16 cells, and DPH-M names one of them
+pub ramPointerMoved-fits : (k dpl dphm : ℕ) (dp : RamPointer) → dp .0 < 2 ^ k * 16 → dphm < 2 ^ k → ramPointerMoved dpl dphm dp .0 < 2 ^ k * 16
+unfolding ramPointerMoved
+ramPointerMoved-fits k dpl dphm dp h l = omega (arith, xor-lt k (dp .0 / 16) dphm (omega arith) l, lowAfter-lt dpl (dp .0 % 16) (omega arith))
 
-    -- DPL 0 with DPH-M 0 keeps DP
-    pub ramPointerMoved-still : (dp : RamPointer) → dp .0 < device .ram → ramPointerMoved device 0 0 dp ≡ dp
-    unfolding ramPointerMoved
-    ramPointerMoved-still dp h = λ i. record { 0 = same i }
-      where
-        row : dp .0 / 16 < rows device
-        row = omega (arith, whole)
-
-        same : bitXor (dp .0 / 16) 0 % rows device * 16 + dp .0 % 16 ≡ dp .0
-        same = rw (xor-zero-r (dp .0 / 16), mod-eq-of-lt row) (omega arith)
+-- DPL 0 with DPH-M 0 keeps DP
+pub ramPointerMoved-still : (dp : RamPointer) → ramPointerMoved 0 0 dp ≡ dp
+unfolding ramPointerMoved
+ramPointerMoved-still dp = λ i. record { 0 = same i }
+  where
+    same : bitXor (dp .0 / 16) 0 * 16 + dp .0 % 16 ≡ dp .0
+    same = rw (xor-zero-r (dp .0 / 16)) (omega arith)

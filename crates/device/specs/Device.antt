@@ -1,5 +1,5 @@
 -- The sizes of a chip: 01, "The sizes belong to the device and are named with it".
-use Prim.Native.Nat.{ℕ, _*_, _/_, _^_}
+use Prim.Native.Nat.{ℕ, _-_, _*_, _%_, _^_}
 
 pub record Device : Type 0 where
   -- instruction words, and the bits of one
@@ -24,6 +24,6 @@ wordLimit device = 2 ^ device .wordBits
 abbrev pub cellLimit : Device → ℕ
 cellLimit device = 2 ^ device .cellBits
 
--- RAM stands in rows of 16 cells: the low four bits of DP are the place in a row, the bits above them the row
-abbrev pub rows : Device → ℕ
-rows device = device .ram / 16
+-- "RO is the cell times 8": the cell's bits stand at the top of 16
+abbrev pub cellValue : Device → ℕ → ℕ
+cellValue device cell = cell % cellLimit device * 2 ^ (16 - device .cellBits)

@@ -5,7 +5,7 @@ use mathlib.Core.List.{List, [], _∷_}
 use lib.Bits.{bitXor}
 use lib.Dec.{ltb}
 use lib.ListN.{getD}
-use Rattle.device.specs.Device.{Device, rows}
+use Rattle.device.specs.Device.{Device}
 use Rattle.device.specs.declared.pointers.InstructionAddress.{InstructionAddress}
 use Rattle.device.specs.declared.pointers.RamPointer.{RamPointer}
 use Rattle.device.specs.declared.pointers.RomPointer.{RomPointer}
@@ -32,12 +32,9 @@ romPointerDown device rp = record { 0 = (rp .0 + (device .cells - 1)) % device .
 abbrev pub lowAfter : ℕ → ℕ → ℕ
 lowAfter dpl low = getD (low ∷ (low + 1) % 16 ∷ (low + 15) % 16 ∷ 0 ∷ []) dpl low
 
--- "DPH-M is exclusive-ored into bits 6 to 4"
-abbrev pub rowAfter : Device → ℕ → ℕ → ℕ
-rowAfter device dphm row = bitXor row dphm % rows device
-
-unfoldable pub ramPointerMoved : Device → ℕ → ℕ → RamPointer → RamPointer
-ramPointerMoved device dpl dphm dp = record { 0 = rowAfter device dphm (dp .0 / 16) * 16 + lowAfter dpl (dp .0 % 16) }
+-- and "DPH-M is exclusive-ored into bits 6 to 4": a row of the device stays one
+unfoldable pub ramPointerMoved : ℕ → ℕ → RamPointer → RamPointer
+ramPointerMoved dpl dphm dp = record { 0 = bitXor (dp .0 / 16) dphm * 16 + lowAfter dpl (dp .0 % 16) }
 
 -- "Destinations keep the low bits they hold"
 abbrev pub ramPointerOf : Device → ℕ → RamPointer

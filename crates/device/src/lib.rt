@@ -1,8 +1,10 @@
 // The chip: its sizes, its three pointers, its register record.
+mod lent;
 mod pointers;
 mod registers;
 mod sizes;
 
+pub use lent::cell_at;
 pub use pointers::InstructionAddress;
 pub use pointers::RamPointer;
 pub use pointers::RomPointer;

@@ -82,10 +82,10 @@ impl RamPointer {
 
     // DPL for the place in the row, DPH-M for the row.
     pub fn moved(self, dpl: u8, dphm: u8) -> RamPointer
-        ensures { λ r. ⌜ r ≡ ramPointerMoved upd77p20 dpl dphm self ⌝ }
+        ensures { λ r. ⌜ r ≡ ramPointerMoved dpl dphm self ⌝ }
     {
         let at = self.0;
-        let row = (at / 16 ^ (dphm as u16)) % Upd77p20::ROWS;
+        let row = at / 16 ^ (dphm as u16);
         RamPointer(row * 16 + low_after(dpl, at % 16))
     }
 }

@@ -15,6 +15,7 @@ pub struct BothFlags {
     pub b: Flags,
 }
 
+// The order of the fields was found by counting the instructions of a run (docs/DECISIONS.md); no proof depends on it.
 #[repr(C)]
 pub struct Registers {
     pub pc: InstructionAddress,
@@ -22,6 +23,9 @@ pub struct Registers {
     pub stack1: InstructionAddress,
     pub stack2: InstructionAddress,
     pub stack3: InstructionAddress,
+    pub flags: BothFlags,
+    pub si: u16,
+    pub siack: bool,
     pub depth: u8,
     pub a: u16,
     pub b: u16,
@@ -29,13 +33,10 @@ pub struct Registers {
     pub l: u16,
     pub tr: u16,
     pub dr: u16,
-    pub si: u16,
     pub so: u16,
     pub dp: RamPointer,
     pub rp: RomPointer,
     pub sr: u16,
-    pub flags: BothFlags,
-    pub siack: bool,
     pub soack: bool,
     pub sorq: bool,
 }

@@ -2,7 +2,7 @@
 ghost use mathlib.Core.Path.{_≡_};
 ghost use mathlib.Core.Bool.{_&&_};
 ghost use lib.Dec.{ltb, eqb};
-ghost use Rattle.device.specs.Device.{upd77p20, wordLimit, cellLimit};
+ghost use Rattle.device.specs.Device.{upd77p20, wordLimit, cellLimit, cellValue};
 
 pub struct Upd77p20 {}
 
@@ -15,9 +15,9 @@ impl Upd77p20 {
 
     pub const CELL_LIMIT: u16 = 1 << 13;
 
-    pub const RAM: u16 = 128;
+    pub const CELL_UNIT: u16 = 8;
 
-    pub const ROWS: u16 = Upd77p20::RAM / 16;
+    pub const RAM: u16 = 128;
 
     pub const STACK: u8 = 4;
 
@@ -42,5 +42,12 @@ impl Upd77p20 {
         ensures { λ r. ⌜ r ≡ ltb cell (cellLimit upd77p20) ⌝ }
     {
         cell < Upd77p20::CELL_LIMIT
+    }
+
+    // What a data ROM cell puts on the bus.
+    pub fn cell_value(cell: u16) -> u16
+        ensures { λ r. ⌜ r ≡ cellValue upd77p20 cell ⌝ }
+    {
+        cell % Upd77p20::CELL_LIMIT * Upd77p20::CELL_UNIT
     }
 }

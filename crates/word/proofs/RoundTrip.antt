@@ -10,7 +10,8 @@ use borrow.Author.Tests.{lt-ltb, le-ltb}
 use lib.ListN.{getD}
 use Rattle.numbers.proofs.Parts.{Row, row-back, row-fits, row-lt, row-again}
 use Rattle.device.specs.Device.{upd77p20, wordLimit}
-use Rattle.word.specs.Fields.{bits, at, opFields, opHolds, opBits, jpFields, jpHolds, jpBits, ldiFields, ldiHolds, ldiBits}
+use Rattle.numbers.specs.Bits.{bits, at}
+use Rattle.word.specs.Fields.{opFields, opHolds, opBits, jpFields, jpHolds, jpBits, ldiFields, ldiHolds, ldiBits}
 use Rattle.word.specs.Word.{wordOf, takenApart, wordHolds, wordBits, built}
 use Rattle.word.specs.declared.OpFields.{OpFields}
 use Rattle.word.specs.declared.JpFields.{JpFields}

@@ -1,22 +1,10 @@
 -- The fields of a word by the places that 01's table gives them: 01, "Taking a word apart (D22 is the top bit)".
-use Prim.Native.Nat.{ℕ, _+_, _-_, _*_, _/_, _%_, _^_}
+use Prim.Native.Nat.{ℕ, _+_}
 use mathlib.Core.Bool.{Bool, _&&_}
-use lib.Dec.{ltb}
+use Rattle.numbers.specs.Bits.{bits, holds, at}
 use Rattle.word.specs.declared.OpFields.{OpFields}
 use Rattle.word.specs.declared.JpFields.{JpFields}
 use Rattle.word.specs.declared.LdiFields.{LdiFields}
-
--- bits D`high` to D`low` of a word
-abbrev pub bits : ℕ → ℕ → ℕ → ℕ
-bits word high low = word / 2 ^ low % 2 ^ (high + 1 - low)
-
--- a number that bits D`high` to D`low` hold
-abbrev pub holds : ℕ → ℕ → ℕ → Bool
-holds high low field = ltb field (2 ^ (high + 1 - low))
-
--- a number that stands at D`low` and above
-abbrev pub at : ℕ → ℕ → ℕ
-at low field = field * 2 ^ low
 
 -- OP and RT: "P-select D20-19, ALU D18-15, ASL D14 (0 = A), DPL D13-12, DPH-M D11-9, RPDCR D8, SRC D7-4, DST D3-0"
 abbrev pub opFields : ℕ → OpFields

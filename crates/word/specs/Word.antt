@@ -5,7 +5,8 @@ use mathlib.Core.List.{List, [], _∷_}
 use lib.Dec.{ltb}
 use lib.ListN.{getD}
 use Rattle.device.specs.Device.{upd77p20, wordLimit}
-use Rattle.word.specs.Fields.{bits, at, opFields, opHolds, opBits, jpFields, jpHolds, jpBits, ldiFields, ldiHolds, ldiBits}
+use Rattle.numbers.specs.Bits.{bits, at}
+use Rattle.word.specs.Fields.{opFields, opHolds, opBits, jpFields, jpHolds, jpBits, ldiFields, ldiHolds, ldiBits}
 use Rattle.word.specs.declared.Word.{Word}
 use Rattle.word.specs.declared.Word.the-variants.{Op, Rt, Jp, Ldi}
 use Rattle.word.specs.declared.Taken.{Taken}

@@ -1,6 +1,7 @@
 // An instruction word taken apart into the fields of its row, and built from them again.
 ghost use mathlib.Core.Path.{_≡_};
 ghost use Prim.Native.Nat.{_+_, _*_, _^_, _≤_, _<_};
+ghost use Rattle.numbers.specs.Bits as place;
 ghost use Rattle.word.specs.Fields as spec;
 ghost use Rattle.word.specs.Word.{takenApart, builtOf, built};
 use device::Upd77p20;
@@ -53,17 +54,25 @@ pub struct Built {
 }
 
 // Bits D`high` to D`low` of a word.
-fn bits(word: u32, high: u32, low: u32) -> u32
-    requires { ⌜ (low ≤ high) × (high < 31) ⌝ }
-    ensures { λ r. ⌜ r ≡ spec.bits word high low ⌝ }
+pub fn bits(word: u32, high: u32, low: u32) -> u32
+    ensures { λ r. ⌜ r ≡ place.bits word high low ⌝ }
 {
+    if high < low {
+        return 0;
+    }
+    if 32 <= low {
+        return 0;
+    }
+    if 31 <= high {
+        return word >> low;
+    }
     (word >> low) % (1 << (high + 1 - low))
 }
 
 // Whether bits D`high` to D`low` hold a field.
 fn holds(high: u32, low: u32, field: u16) -> bool
     requires { ⌜ (low ≤ high) × (high < 31) ⌝ }
-    ensures { λ r. ⌜ r ≡ spec.holds high low field ⌝ }
+    ensures { λ r. ⌜ r ≡ place.holds high low field ⌝ }
 {
     (field as u32) < 1 << (high + 1 - low)
 }
@@ -71,7 +80,7 @@ fn holds(high: u32, low: u32, field: u16) -> bool
 // A field that stands at D`low` and above.
 fn at(low: u32, field: u32) -> u32
     requires { ⌜ (low < 32) × (field * 2 ^ low < 2 ^ 32) ⌝ }
-    ensures { λ r. ⌜ r ≡ spec.at low field ⌝ }
+    ensures { λ r. ⌜ r ≡ place.at low field ⌝ }
 {
     field << low
 }

@@ -1,6 +1,8 @@
 //! Holds the proved arithmetic against the independent emulator: every input where there are few enough, else every pair of
 //! corner values and some millions of random ones. Prints what was compared; the first difference ends it with status 1.
 
+mod machine;
+mod mixing;
 mod probe;
 
 use emulator::alu::{self, Accumulator};
@@ -146,7 +148,45 @@ fn steps() -> u64 {
     compared
 }
 
+/// 20 million words of the mixing loop through the event call.
+fn mixing_loop() -> u64 {
+    let mut mixing = mixing::Mixing::new();
+    let mut left: u32 = 20_000_000;
+    while left > 0 {
+        let words = left.min(mixing::CALL);
+        same("finishing", words, mixing.run(words), true);
+        left -= words;
+    }
+    same("state after the mixing loop", "20 million words", mixing.state(), mixing::AFTER_20_MILLION);
+    20_000_000
+}
+
+/// `compare count N`: N calls of the mixing loop and nothing else, for a counter of instructions.
+fn count(calls: &str) {
+    let Ok(calls) = calls.parse::<u32>() else {
+        eprintln!("compare: count takes a number of calls, not {calls:?}");
+        exit(2);
+    };
+    let mut mixing = mixing::Mixing::new();
+    for _ in 0..calls {
+        same("finishing", mixing::CALL, mixing.run(mixing::CALL), true);
+    }
+    println!("{:x?}", mixing.state());
+}
+
 fn main() {
+    let arguments: Vec<String> = std::env::args().skip(1).collect();
+    match arguments.iter().map(String::as_str).collect::<Vec<_>>()[..] {
+        [] => compare(),
+        ["count", calls] => count(calls),
+        _ => {
+            eprintln!("usage: compare | compare count CALLS");
+            exit(2);
+        }
+    }
+}
+
+fn compare() {
     let mut random = Random(SEED);
     let report = |what: &str, compared: u64| println!("compare: {compared:>9} {what}, no difference");
     report("one-operand operations (every value, flag and carry)", one_operand());
@@ -155,4 +195,5 @@ fn main() {
     report("products, M and N", products(&mut random));
     report("reversals (every value)", reversals());
     report("pointer steps (every pointer that fits)", steps());
+    report("words of the mixing loop, ending where other emulators end", mixing_loop());
 }

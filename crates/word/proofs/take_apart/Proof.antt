@@ -5,7 +5,7 @@ use native.Mathlib.Omega.{arith}
 use mathlib.Core.Path.{_≡_, sym, _∙_}
 use borrow.Author.Needs.{needs}
 use borrow.Author.Tests.{lt-ltb, le-ltb}
-use Rattle.word.specs.Fields.{bits}
+use Rattle.numbers.specs.Bits.{bits}
 use Rattle.word.specs.Word.{takenApart, wordOf}
 use Rattle.word.proofs.take_apart.Statement.{statement}
 use Rattle.word.proofs.take_apart.Tie as tie

@@ -1,14 +1,12 @@
-use mathlib.Core.Path.{sym}
 use borrow.Author.Needs.{needs}
-use lib.ListN.{List·getD-eq-default}
-use Rattle.numbers.proofs.Codes.{beyond}
+use Rattle.numbers.proofs.Codes.{past}
 use Rattle.alu.specs.Operations.{operations}
 use Rattle.alu.specs.declared.Operation.the-variants.{None}
 use Rattle.alu.proofs.Operation.of_code.Statement.{statement}
 use Rattle.alu.proofs.Operation.of_code.Tie as tie
 
 returns-17 : tie.Need-returns-17
-returns-17 c = sym (List·getD-eq-default operations None {n = c .before .args .code} (beyond 16 (c .before .args .code) (c .match .rest)))
+returns-17 c = past operations None (c .before .args .code) (c .match .rest)
 
 pub of-code-spec : {M : Type 1} → statement M
 of-code-spec =

@@ -2,11 +2,9 @@
 -- Assumes nothing.
 use native.Mathlib.Omega.{arith}
 use mathlib.Core.List.{[], _∷_}
-use mathlib.Core.Path.{sym}
 use Prim.Native.Nat.{_+_, _%_}
-use lib.ListN.{List·getD-eq-default}
 use borrow.Author.Needs.{needs}
-use Rattle.numbers.proofs.Codes.{beyond}
+use Rattle.numbers.proofs.Codes.{past}
 use Rattle.device.proofs.pointers.low_after.Statement.{statement}
 use Rattle.device.proofs.pointers.low_after.Tie as tie
 
@@ -17,7 +15,7 @@ returns-3 : tie.Need-returns-3
 returns-3 c = rw (c .before .match .keys3) (omega arith)
 
 returns-5 : tie.Need-returns-5
-returns-5 c = let low = c .before .args .low in sym (List·getD-eq-default (low ∷ (low + 1) % 16 ∷ (low + 15) % 16 ∷ 0 ∷ []) low {n = c .before .args .dpl} (beyond 4 (c .before .args .dpl) (c .match .rest)))
+returns-5 c = let low = c .before .args .low in past (low ∷ (low + 1) % 16 ∷ (low + 15) % 16 ∷ 0 ∷ []) low (c .before .args .dpl) (c .match .rest)
 
 pub low-after-spec : {M : Type 1} → statement M
 low-after-spec =

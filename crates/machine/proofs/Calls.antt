@@ -1,0 +1,52 @@
+-- A call is refused by 1, 2 or 3, or the event of its kind is done.
+-- Assumes nothing.
+use Prim.Native.Nat.{ℕ, _<_}
+use native.Mathlib.Omega.{arith}
+use mathlib.Core.Path.{_≡_, sym, ap, _∙_}
+use mathlib.Core.Bool.{true, false}
+use mathlib.Core.List.{List}
+use borrow.Author.Tests.{leb-true}
+use Rattle.numbers.proofs.Codes.{Misses, past}
+use Rattle.device.specs.Device.{upd77p20}
+use Rattle.device.specs.Registers.{registersFit}
+use Rattle.device.specs.declared.registers.Registers.{Registers}
+use Rattle.machine.specs.Replies.{refusedCall, answered}
+use Rattle.machine.specs.Events.{lengthsFit, allowed, reset, kinds, kindDone, eventDone}
+
+module _ (r : Registers) (program rom ram : List ℕ) (kind value : ℕ) where
+  pub call-refused-1 : lengthsFit program rom ram ≡ false → refusedCall 1 r ram ≡ eventDone r program rom ram kind value
+  unfolding eventDone
+  call-refused-1 e = rw e
+
+  module _ (long : lengthsFit program rom ram ≡ true) where
+    pub call-refused-2 : registersFit upd77p20 r ≡ false → refusedCall 2 r ram ≡ eventDone r program rom ram kind value
+    unfolding eventDone
+    call-refused-2 e = rw (long, e)
+
+    module _ (fit : registersFit upd77p20 r ≡ true) where
+      pub call-refused-3 : allowed kind value ≡ false → refusedCall 3 r ram ≡ eventDone r program rom ram kind value
+      unfolding eventDone
+      call-refused-3 e = rw (long, fit, e)
+
+      pub call-done : allowed kind value ≡ true → kindDone kind value r program rom ram ≡ eventDone r program rom ram kind value
+      unfolding eventDone
+      call-done e = rw (long, fit, e)
+
+  -- a kind that is none of the others is the reset
+  pub kind-reset : Misses 7 kind → answered 0 (reset r) ram ≡ kindDone kind value r program rom ram
+  unfolding kindDone
+  kind-reset h = past (kinds value r program rom ram) (answered 0 (reset r) ram) kind h
+
+-- what a kind allows fits its type
+module _ (kind value : ℕ) (ok : allowed kind value ≡ true) where
+  at : {k : ℕ} → kind ≡ k → allowed k value ≡ true
+  at e = ap (λ k. allowed k value) (sym e) ∙ ok
+
+  pub run-fits : kind ≡ 0 → value < 65536
+  run-fits e = omega (arith, leb-true value 65535 (at e))
+
+  pub byte-fits : kind ≡ 2 → value < 256
+  byte-fits e = omega (arith, leb-true value 255 (at e))
+
+  pub serial-fits : kind ≡ 4 → value < 65536
+  serial-fits e = omega (arith, leb-true value 65535 (at e))

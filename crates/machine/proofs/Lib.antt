@@ -1,0 +1,6 @@
+pub mod Runs
+pub mod Calls
+pub mod Answers
+pub mod Counting
+pub mod Fitting
+pub mod Frames

@@ -1,0 +1,10 @@
+use borrow.Author.Needs.{needs}
+use Rattle.machine.proofs.events.host_read.Statement.{statement}
+use Rattle.machine.proofs.events.host_read.Tie as tie
+
+returns : tie.Need-returns
+returns c = rw (c .status-accessed .ensures)
+
+pub host-read-spec : {M : Type 1} → statement M
+host-read-spec =
+    tie.close (tie.spec (λ c κs. search needs) returns)

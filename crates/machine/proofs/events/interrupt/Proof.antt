@@ -1,0 +1,10 @@
+use borrow.Author.Needs.{needs}
+use Rattle.machine.proofs.events.interrupt.Statement.{statement}
+use Rattle.machine.proofs.events.interrupt.Tie as tie
+
+returns : tie.Need-returns
+returns c = rw (c .without-ei .ensures, c .before .push .ensures)
+
+pub interrupt-spec : {M : Type 1} → statement M
+interrupt-spec =
+    tie.close (tie.spec (λ c κs. search needs) (λ c κs. search needs) returns)

@@ -1,0 +1,13 @@
+use Rattle.device.specs.Registers.{freshRegisters}
+use Rattle.machine.specs.Events.{reset}
+use borrow.Author.Needs.{needs}
+use Rattle.machine.proofs.events.reset_machine.Statement.{statement}
+use Rattle.machine.proofs.events.reset_machine.Tie as tie
+
+returns : tie.Need-returns
+unfolding reset freshRegisters
+returns c = rw (c .before .before .fresh-registers .ensures)
+
+pub reset-machine-spec : {M : Type 1} → statement M
+reset-machine-spec =
+    tie.close (tie.spec (λ c κs. search needs) returns)

@@ -1,0 +1,25 @@
+-- What a call leaves behind: 01, "A reply is a number, the words done (0 for every kind but 0), and a value (kinds 1, 3, 5; else 0)".
+use Prim.Native.Nat.{ℕ}
+use mathlib.Core.List.{List}
+use Rattle.device.specs.declared.registers.Registers.{Registers}
+use Rattle.machine.specs.declared.replies.Answer.{Answer}
+
+-- the reply's number, words done and value, the registers, the RAM
+pub record Ending : Type 0 where
+  pub number : ℕ
+  pub words : ℕ
+  pub value : ℕ
+  pub registers : Registers
+  pub ram : List ℕ
+
+-- "All but 0 hand back the value 0 and registers and RAM as before the refused word or event"
+abbrev pub refusedCall : ℕ → Registers → List ℕ → Ending
+refusedCall number r ram = record { number = number; words = 0; value = 0; registers = r; ram = ram }
+
+-- an event other than a run, with its value
+abbrev pub answered : ℕ → Registers → List ℕ → Ending
+answered value q ram = record { number = 0; words = 0; value = value; registers = q; ram = ram }
+
+-- what the code answers, with the RAM as it is left
+abbrev pub ending : Answer → List ℕ → Ending
+ending x ram = record { number = x .number; words = x .words; value = x .value; registers = x .registers; ram = ram }

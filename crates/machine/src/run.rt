@@ -1,0 +1,41 @@
+// A run of words.
+ghost use mathlib.Core.Path.{_≡_};
+ghost use Rattle.machine.specs.Replies.{ending};
+ghost use Rattle.machine.specs.Run.{ran};
+use crate::replies::Answer;
+use device::Registers;
+
+// So many words, or those before the first that is refused.
+pub(crate) fn run(
+    registers: Registers,
+    program: &[u32],
+    rom: &[u16],
+    ram: &mut [u16],
+    count: u16,
+) -> Answer
+    ensures { λ x. ⌜ ending x (now (ram .exit)) ≡ ran count 0 registers (now (program .entry)) (now (rom .entry)) (now (ram .entry)) ⌝ }
+{
+    let mut q = registers;
+    let mut words: u16 = 0;
+    while words < count {
+        let stepped = words::one_word(q, program, rom, ram);
+        let number = stepped.number;
+        let after = stepped.registers;
+        if number != 0 {
+            return Answer {
+                number,
+                words,
+                value: 0,
+                registers: after,
+            };
+        }
+        q = after;
+        words += 1;
+    }
+    Answer {
+        number: 0,
+        words,
+        value: 0,
+        registers: q,
+    }
+}

@@ -1,0 +1,16 @@
+use Rattle.numbers.proofs.Codes.{past}
+use Rattle.stages.specs.Codes.{destinations}
+use Rattle.stages.specs.declared.codes.Destination.the-variants.{None}
+use borrow.Author.Needs.{needs}
+use Rattle.stages.proofs.codes.Destination.of_code.Statement.{statement}
+use Rattle.stages.proofs.codes.Destination.of_code.Tie as tie
+
+returns-17 : tie.Need-returns-17
+returns-17 c = past destinations None (c .before .args .code) (c .match .rest)
+
+pub of-code-spec : {M : Type 1} → statement M
+of-code-spec =
+    tie.close (tie.spec (λ c. search needs) (λ c. search needs) (λ c. search needs) (λ c. search needs)
+    (λ c. search needs) (λ c. search needs) (λ c. search needs) (λ c. search needs) (λ c. search needs)
+    (λ c. search needs) (λ c. search needs) (λ c. search needs) (λ c. search needs) (λ c. search needs)
+    (λ c. search needs) (λ c. search needs) returns-17)

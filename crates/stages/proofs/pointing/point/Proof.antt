@@ -1,0 +1,19 @@
+use native.Mathlib.Omega.{arith}
+use mathlib.Core.Path.{sym}
+use Rattle.word.specs.Fields.{opFields}
+use Rattle.stages.proofs.Keeping.{pointed-idle}
+use Rattle.stages.specs.Pointing.{pointed}
+use borrow.Author.Needs.{needs}
+use Rattle.stages.proofs.pointing.point.Statement.{statement}
+use Rattle.stages.proofs.pointing.point.Tie as tie
+
+returns : tie.Need-returns
+returns c = let s = c .before .before .args in sym (pointed-idle (s .r) (opFields (s .w)) (omega arith) (omega arith) (omega arith))
+
+returns-2 : tie.Need-returns-2
+unfolding pointed
+returns-2 c = rw (c .rp-after .ensures, c .before .dp-after .ensures)
+
+pub point-spec : {M : Type 1} → statement M
+point-spec =
+    tie.close (tie.spec (λ c κs. search needs) returns (λ c κs. search needs) (λ c κs. search needs) returns-2)

@@ -1,0 +1,5 @@
+pub mod Codes
+pub mod Bus
+pub mod Accumulators
+pub mod Destinations
+pub mod Pointing

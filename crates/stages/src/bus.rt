@@ -1,0 +1,49 @@
+// What a source puts on the bus, and what reading it leaves behind.
+ghost use mathlib.Core.Path.{_≡_};
+ghost use Rattle.stages.specs.Bus.{busOf, readFrom};
+use crate::codes::Source;
+use device::Registers;
+use device::Upd77p20;
+
+pub fn bus_value(r: Registers, source: Source, ram: &[u16], rom: &[u16]) -> u16
+    ensures { λ x. ⌜ x ≡ busOf r source (now (ram .entry)) (now (rom .entry)) ⌝ }
+{
+    match source {
+        Source::None => 0,
+        Source::A => r.a,
+        Source::B => r.b,
+        Source::Tr => r.tr,
+        Source::Dp => r.dp.0,
+        Source::Rp => r.rp.0,
+        Source::Ro => Upd77p20::cell_value(device::cell_at(rom, r.rp.0)),
+        Source::Sgn => if r.flags.a.s1 { 0x7fff } else { 0x8000 },
+        Source::Dr => r.dr,
+        Source::Drnf => r.dr,
+        Source::Sr => r.sr,
+        Source::Sim => r.si,
+        Source::Sil => numbers::reverse16(r.si),
+        Source::K => r.k,
+        Source::L => r.l,
+        Source::Mem => device::cell_at(ram, r.dp.0),
+    }
+}
+
+// Reading DR sets RQM; SIM and SIL clear SIACK. The arms meet before the record is handed back, as in `load`.
+pub fn read_from(r: Registers, source: Source) -> Registers
+    ensures { λ x. ⌜ x ≡ readFrom r source ⌝ }
+{
+    let mut q = r;
+    match source {
+        Source::Dr => {
+            q.sr = status::with_rqm(r.sr);
+        }
+        Source::Sim => {
+            q.siack = false;
+        }
+        Source::Sil => {
+            q.siack = false;
+        }
+        _ => {}
+    }
+    q
+}

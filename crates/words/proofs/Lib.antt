@@ -1,0 +1,4 @@
+pub mod Composed
+pub mod Fitting
+pub mod WordFits
+pub mod Frames

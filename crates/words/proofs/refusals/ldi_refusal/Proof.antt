@@ -1,0 +1,24 @@
+use native.Mathlib.Omega.{arith}
+use mathlib.Core.Path.{_≡_, refl, sym, ap, _∙_}
+use borrow.Author.Tests.{eq-eqb, ne-eqb, le-leb, lt-leb, lt-ltb, le-ltb}
+use Rattle.numbers.specs.Bits.{bits}
+use Rattle.words.specs.Refusals.{ldiRefusal}
+use borrow.Author.Needs.{needs}
+use Rattle.words.proofs.refusals.ldi_refusal.Statement.{statement}
+use Rattle.words.proofs.refusals.ldi_refusal.Tie as tie
+
+returns : tie.Need-returns
+unfolding ldiRefusal
+returns c = rw (eq-eqb (bits (c .before .before .before .before .before .args .w) 3 0) 11 (omega arith), sym (c .before .cell-too-wide .ensures) ∙ c .if2 .taken)
+
+returns-2 : tie.Need-returns-2
+unfolding ldiRefusal
+returns-2 c = rw (eq-eqb (bits (c .before .before .before .before .before .args .w) 3 0) 11 (omega arith), sym (c .before .cell-too-wide .ensures) ∙ c .if2 .left)
+
+returns-3 : tie.Need-returns-3
+unfolding ldiRefusal
+returns-3 c = rw (ne-eqb (bits (c .before .before .before .args .w) 3 0) 11 (λ e. omega (arith, c .if1 .left)))
+
+pub ldi-refusal-spec : {M : Type 1} → statement M
+ldi-refusal-spec =
+    tie.close (tie.spec (λ c κs. search needs) (λ c κs. search needs) returns returns-2 returns-3)

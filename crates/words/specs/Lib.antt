@@ -1,0 +1,6 @@
+pub mod Outcomes
+pub mod Refusals
+pub mod Operation
+pub mod Jump
+pub mod Load
+pub mod Word

@@ -1,0 +1,23 @@
+-- What a word leaves behind.
+use Prim.Native.Nat.{ℕ}
+use mathlib.Core.List.{List}
+use Rattle.device.specs.declared.registers.Registers.{Registers}
+use Rattle.words.specs.declared.outcomes.Stepped.{Stepped}
+
+-- 0 or its refusal, the registers, the RAM
+pub record Outcome : Type 0 where
+  pub number : ℕ
+  pub registers : Registers
+  pub ram : List ℕ
+
+-- "All but 0 hand back .. registers and RAM as before the refused word"
+abbrev pub refusedWord : ℕ → Registers → List ℕ → Outcome
+refusedWord number r ram = record { number = number; registers = r; ram = ram }
+
+-- "done"; every finished word goes through here
+abbrev pub finishedWord : Registers → List ℕ → Outcome
+finishedWord q ram = record { number = 0; registers = q; ram = ram }
+
+-- what the code answers, with the RAM as it is left
+abbrev pub outcome : Stepped → List ℕ → Outcome
+outcome x ram = record { number = x .number; registers = x .registers; ram = ram }

@@ -1,0 +1,65 @@
+// Which words are refused, the lowest number first.
+ghost use mathlib.Core.Path.{_≡_};
+ghost use mathlib.Core.Bool.{_&&_};
+ghost use lib.Dec.{leb};
+ghost use Rattle.word.specs.Fields.{opFields, ldiFields};
+ghost use Rattle.words.specs.Refusals as spec;
+use device::Registers;
+use device::Upd77p20;
+
+// The first RT word.
+pub(crate) const FIRST_RT: u32 = 1 << 21;
+
+// A word without a source whose bus would be looked at.
+fn source_missing(w: u32) -> bool
+    ensures { λ r. ⌜ r ≡ spec.sourceMissing (opFields w) ⌝ }
+{
+    if word::bits(w, 7, 4) != 0 {
+        return false;
+    }
+    let dst = word::bits(w, 3, 0);
+    let code = word::bits(w, 18, 15);
+    !((dst == 0) | (dst == 14)) | ((1 <= code) & (code <= 7) & (word::bits(w, 20, 19) == 1))
+}
+
+fn cell_too_wide(r: Registers, rom: &[u16]) -> bool
+    ensures { λ x. ⌜ x ≡ spec.cellTooWide r (now (rom .entry)) ⌝ }
+{
+    Upd77p20::CELL_LIMIT <= device::cell_at(rom, r.rp.0)
+}
+
+// An OP or RT word that puts a cell on the bus or in L, where the cell is too wide.
+fn cell_refused(r: Registers, w: u32, rom: &[u16]) -> bool
+    ensures { λ x. ⌜ x ≡ (spec.usesCell (opFields w) && spec.cellTooWide r (now (rom .entry))) ⌝ }
+{
+    if (word::bits(w, 7, 4) == 6) | (word::bits(w, 3, 0) == 11) {
+        return cell_too_wide(r, rom);
+    }
+    false
+}
+
+pub(crate) fn op_refusal(r: Registers, w: u32, rom: &[u16]) -> u8
+    ensures { λ x. ⌜ x ≡ spec.opRefusal (leb 2097152 w) r (opFields w) (now (rom .entry)) ⌝ }
+{
+    if source_missing(w) {
+        return 6;
+    }
+    if cell_refused(r, w, rom) {
+        return 7;
+    }
+    if (FIRST_RT <= w) & (r.depth == 0) {
+        return 8;
+    }
+    0
+}
+
+pub(crate) fn ldi_refusal(r: Registers, w: u32, rom: &[u16]) -> u8
+    ensures { λ x. ⌜ x ≡ spec.ldiRefusal r (ldiFields w) (now (rom .entry)) ⌝ }
+{
+    if word::bits(w, 3, 0) == 11 {
+        if cell_too_wide(r, rom) {
+            return 7;
+        }
+    }
+    0
+}
