@@ -1,3 +1,5 @@
+-- `reverse_byte`: eight digits of the definition against eight of the code.
+-- Assumes nothing.
 use Prim.Native.Nat.{_/_, _*_}
 use borrow.Author.Needs.{needs}
 use native.Mathlib.Omega.{arith}

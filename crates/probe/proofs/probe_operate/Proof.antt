@@ -1,3 +1,5 @@
+-- `probe_operate`: the code's operation, by both contracts.
+-- Assumes nothing.
 use borrow.Author.Needs.{needs}
 use Rattle.probe.proofs.probe_operate.Statement.{statement}
 use Rattle.probe.proofs.probe_operate.Tie as tie

@@ -1,3 +1,5 @@
+-- `build`: for each row the test of its widths and the sum of its bits, by their contracts.
+-- Assumes nothing.
 use borrow.Author.Needs.{needs}
 use Rattle.word.specs.Word.{wordHolds, wordBits, built}
 use Rattle.word.proofs.build.Statement.{statement}

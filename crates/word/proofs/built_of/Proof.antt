@@ -1,3 +1,5 @@
+-- `built_of`: the definition's one test.
+-- Assumes nothing.
 use Rattle.word.proofs.built_of.Statement.{statement}
 use Rattle.word.proofs.built_of.Tie as tie
 

@@ -1,3 +1,5 @@
+-- `holds`: a shifted 1 is a power of 2.
+-- Assumes nothing.
 use Prim.Native.Nat.{_+_, _-_}
 use native.Mathlib.Omega.{arith}
 use borrow.Author.Needs.{needs}

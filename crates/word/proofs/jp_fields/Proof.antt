@@ -1,3 +1,5 @@
+-- `jp_fields`: each field by the contract of `bits`.
+-- Assumes nothing.
 use borrow.Author.Needs.{needs}
 use Rattle.word.proofs.jp_fields.Statement.{statement}
 use Rattle.word.proofs.jp_fields.Tie as tie

@@ -1,3 +1,5 @@
+-- `ldi_holds`: each field by the contract of `holds`.
+-- Assumes nothing.
 use borrow.Author.Needs.{needs}
 use Rattle.word.proofs.ldi_holds.Statement.{statement}
 use Rattle.word.proofs.ldi_holds.Tie as tie

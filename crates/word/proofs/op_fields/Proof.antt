@@ -1,3 +1,5 @@
+-- `op_fields`: each field by the contract of `bits`.
+-- Assumes nothing.
 use borrow.Author.Needs.{needs}
 use Rattle.word.proofs.op_fields.Statement.{statement}
 use Rattle.word.proofs.op_fields.Tie as tie

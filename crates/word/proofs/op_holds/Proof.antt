@@ -1,3 +1,5 @@
+-- `op_holds`: each field by the contract of `holds`.
+-- Assumes nothing.
 use borrow.Author.Needs.{needs}
 use Rattle.word.proofs.op_holds.Statement.{statement}
 use Rattle.word.proofs.op_holds.Tie as tie

@@ -1,3 +1,5 @@
+-- `Operation::of_code`: sixteen codes, sixteen rows of the table; above 15 there is none.
+-- Assumes nothing.
 use borrow.Author.Needs.{needs}
 use Rattle.numbers.proofs.Codes.{past}
 use Rattle.alu.specs.Operations.{operations}

@@ -1,3 +1,5 @@
+-- `Plan::of`: each arm is its operation's row of the definition; the one sum cannot leave 16 bits, because a shift left leaves bit 0 free.
+-- Assumes nothing.
 use native.Mathlib.Omega.{arith}
 use Rattle.alu.proofs.Sums.{boolByte-le}
 use borrow.Author.Needs.{needs}

@@ -1,3 +1,5 @@
+-- `cell_at`: within the list its cell, beyond the end 0.
+-- Assumes nothing.
 use mathlib.Core.Path.{sym}
 use denote.Ref.{now}
 use lib.ListN.{List·getD-eq-default}

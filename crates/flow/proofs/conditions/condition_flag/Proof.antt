@@ -1,3 +1,5 @@
+-- `condition_flag`: the n-th of twelve flags is the n-th of the list.
+-- Assumes nothing.
 use mathlib.Core.Bool.{false}
 use Rattle.numbers.proofs.Codes.{past}
 use Rattle.flow.specs.Conditions.{conditionFlags}

@@ -1,3 +1,5 @@
+-- `condition_holds`: in each range the definition's own test; the range is known from the match.
+-- Assumes nothing.
 use Prim.Native.Nat.{_≤_}
 use native.Mathlib.Omega.{arith}
 use borrow.Author.Tests.{lt-ltb, le-ltb, ne-eqb}

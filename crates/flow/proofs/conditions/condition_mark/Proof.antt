@@ -1,3 +1,5 @@
+-- `condition_mark`: the n-th of three marks is the n-th of the list.
+-- Assumes nothing.
 use mathlib.Core.Bool.{false}
 use Rattle.numbers.proofs.Codes.{past}
 use Rattle.flow.specs.Conditions.{conditionMarks}

@@ -1,3 +1,5 @@
+-- `cell_of`: the n-th of four cells.
+-- Assumes nothing.
 use mathlib.Core.List.{[], _∷_}
 use Rattle.numbers.proofs.Codes.{past}
 use borrow.Author.Needs.{needs}

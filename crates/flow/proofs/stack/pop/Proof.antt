@@ -1,3 +1,5 @@
+-- `pop`: depth one less and PC from the cell below it; the fields are stored one after the other.
+-- Assumes nothing.
 use Prim.Native.Nat.{ℕ, zero, suc, _-_}
 use mathlib.Core.Path.{_≡_, refl}
 use mathlib.Core.List.{[], _∷_}

@@ -1,3 +1,5 @@
+-- `push`: one arm for each depth, as the definition has them.
+-- Assumes nothing.
 use mathlib.Core.List.{[], _∷_}
 use Rattle.numbers.proofs.Codes.{past}
 use Rattle.device.specs.Set.{set-depth, set-stack0, set-stack1, set-stack2, set-stack3}

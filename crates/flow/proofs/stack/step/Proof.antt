@@ -1,3 +1,5 @@
+-- `step`: PC alone is stored.
+-- Assumes nothing.
 use borrow.Author.Needs.{needs}
 use Rattle.flow.proofs.stack.step.Statement.{statement}
 use Rattle.flow.proofs.stack.step.Tie as tie

@@ -1,3 +1,5 @@
+-- `allowed`: the n-th kind is the n-th of the definition's list; above 7 there is none.
+-- Assumes nothing.
 use mathlib.Core.Bool.{false}
 use mathlib.Core.List.{[], _∷_}
 use lib.Dec.{leb, eqb}

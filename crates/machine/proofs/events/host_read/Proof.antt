@@ -1,3 +1,5 @@
+-- `host_read`: SR alone is stored.
+-- Assumes nothing.
 use borrow.Author.Needs.{needs}
 use Rattle.machine.proofs.events.host_read.Statement.{statement}
 use Rattle.machine.proofs.events.host_read.Tie as tie

@@ -1,3 +1,5 @@
+-- `host_write`: DR and then SR are stored, both found from the record before.
+-- Assumes nothing.
 use borrow.Author.Needs.{needs}
 use Rattle.machine.proofs.events.host_write.Statement.{statement}
 use Rattle.machine.proofs.events.host_write.Tie as tie

@@ -1,3 +1,5 @@
+-- `interrupt`: PC is pushed, then PC and SR are stored.
+-- Assumes nothing.
 use borrow.Author.Needs.{needs}
 use Rattle.machine.proofs.events.interrupt.Statement.{statement}
 use Rattle.machine.proofs.events.interrupt.Tie as tie

@@ -1,3 +1,5 @@
+-- `interrupt_event`: the definition's two tests in their order.
+-- Assumes nothing.
 use mathlib.Core.Path.{_≡_, refl, sym, ap, _∙_}
 use borrow.Author.Tests.{eq-eqb, ne-eqb, le-leb, lt-leb, lt-ltb, le-ltb}
 use Rattle.machine.specs.Events.{interruptEnding}

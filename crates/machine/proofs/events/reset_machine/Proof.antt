@@ -1,3 +1,5 @@
+-- `reset_machine`: the fields that 01 lists are stored one after the other.
+-- Assumes nothing.
 use Rattle.device.specs.Registers.{freshRegisters}
 use Rattle.machine.specs.Events.{reset}
 use borrow.Author.Needs.{needs}

@@ -1,3 +1,5 @@
+-- `serial_out_event`: the definition's one test.
+-- Assumes nothing.
 use Rattle.machine.specs.Events.{serialOutEnding}
 use borrow.Author.Needs.{needs}
 use Rattle.machine.proofs.events.serial_out_event.Statement.{statement}

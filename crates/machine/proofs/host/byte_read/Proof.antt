@@ -1,3 +1,5 @@
+-- `byte_read`: by DR's half, as the definition has it.
+-- Assumes nothing.
 use native.Mathlib.Omega.{arith}
 use mathlib.Core.Path.{_≡_, refl, sym, ap, _∙_}
 use Rattle.machine.specs.Host.{byteRead}

@@ -1,3 +1,5 @@
+-- `dr_written`: by DR's half; a byte and a half of DR cannot leave 16 bits.
+-- Assumes nothing.
 use native.Mathlib.Omega.{arith}
 use mathlib.Core.Path.{_≡_, refl, sym, ap, _∙_}
 use Rattle.machine.specs.Host.{drWritten}

@@ -1,3 +1,5 @@
+-- `high_byte`: the two bits of SR by their contracts.
+-- Assumes nothing.
 use borrow.Author.Needs.{needs}
 use Rattle.machine.proofs.host.high_byte.Statement.{statement}
 use Rattle.machine.proofs.host.high_byte.Tie as tie

@@ -1,3 +1,5 @@
+-- `status_accessed`: the definition's two tests in their order.
+-- Assumes nothing.
 use mathlib.Core.Path.{_≡_, refl, sym, ap, _∙_}
 use Rattle.machine.specs.Host.{statusAccessed}
 use borrow.Author.Needs.{needs}

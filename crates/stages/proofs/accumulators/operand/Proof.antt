@@ -1,3 +1,5 @@
+-- `operand`: each P-select is its row of the definition.
+-- Assumes nothing.
 use mathlib.Core.List.{[], _∷_}
 use denote.Ref.{now}
 use Rattle.multiplier.specs.Product.{mOf, nOf}

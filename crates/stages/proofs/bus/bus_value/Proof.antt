@@ -1,3 +1,7 @@
+-- `bus_value`: each arm is its source's row of the definition.
+-- Assumes nothing.
+use mathlib.Core.Bool.{cond}
+use mathlib.Core.Path.{sym, ap}
 use Rattle.stages.specs.Bus.{busOf}
 use borrow.Author.Needs.{needs}
 use Rattle.stages.proofs.bus.bus_value.Statement.{statement}
@@ -33,11 +37,11 @@ returns-7 c = rw (c .cell-value .ensures, c .before .cell-at .ensures, c .before
 
 returns-8 : tie.Need-returns-8
 unfolding busOf
-returns-8 c = rw (c .before .enum-told8 .given .1, c .if1 .taken)
+returns-8 c = rw (c .before .enum-told8 .given .1) (sym (ap (λ s1. cond s1 32767 32768) (c .if1 .taken)))
 
 returns-9 : tie.Need-returns-9
 unfolding busOf
-returns-9 c = rw (c .before .enum-told8 .given .1, c .if1 .left)
+returns-9 c = rw (c .before .enum-told8 .given .1) (sym (ap (λ s1. cond s1 32767 32768) (c .if1 .left)))
 
 returns-10 : tie.Need-returns-10
 unfolding busOf

@@ -1,3 +1,5 @@
+-- `read_from`: each source is its row of the definition; the arms meet, so each says what it left in the record.
+-- Assumes nothing.
 use Prim.Native.Nat.{ℕ}
 use mathlib.Core.Path.{_≡_, refl}
 use mathlib.Core.List.{List, [], _∷_}

@@ -1,3 +1,5 @@
+-- `load`: each destination is its row of the definition; the arms meet, so each says what it left in the record and in the RAM.
+-- Assumes nothing.
 use mathlib.Core.Path.{refl}
 use Rattle.stages.specs.Destinations.{loaded, ramLoaded}
 use borrow.Author.Needs.{needs}

@@ -1,3 +1,5 @@
+-- `store`: within the RAM its cell is set, beyond the end nothing is.
+-- Assumes nothing.
 use mathlib.Core.Path.{sym}
 use denote.Ref.{now}
 use lib.Seq.{set-out}

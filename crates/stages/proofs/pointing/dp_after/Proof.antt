@@ -1,3 +1,5 @@
+-- `dp_after`: the destination's test, then the step by its contract.
+-- Assumes nothing.
 use native.Mathlib.Omega.{arith}
 use borrow.Author.Tests.{eq-eqb, ne-eqb}
 use Rattle.numbers.specs.Bits.{bits}

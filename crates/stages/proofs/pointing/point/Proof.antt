@@ -1,3 +1,5 @@
+-- `point`: six bits that are 0 together are 0 each, and then neither pointer moves.
+-- Assumes nothing.
 use native.Mathlib.Omega.{arith}
 use mathlib.Core.Path.{sym}
 use Rattle.word.specs.Fields.{opFields}

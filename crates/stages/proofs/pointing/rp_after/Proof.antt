@@ -1,3 +1,5 @@
+-- `rp_after`: the destination's test, then RPDCR's.
+-- Assumes nothing.
 use native.Mathlib.Omega.{arith}
 use borrow.Author.Tests.{eq-eqb, ne-eqb}
 use Rattle.numbers.specs.Bits.{bits}

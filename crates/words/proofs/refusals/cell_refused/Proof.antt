@@ -1,3 +1,5 @@
+-- `cell_refused`: the code's two codes are the definition's.
+-- Assumes nothing.
 use borrow.Author.Needs.{needs}
 use Rattle.words.proofs.refusals.cell_refused.Statement.{statement}
 use Rattle.words.proofs.refusals.cell_refused.Tie as tie

@@ -1,3 +1,5 @@
+-- `cell_too_wide`: the cell by its contract.
+-- Assumes nothing.
 use borrow.Author.Needs.{needs}
 use Rattle.words.proofs.refusals.cell_too_wide.Statement.{statement}
 use Rattle.words.proofs.refusals.cell_too_wide.Tie as tie

@@ -1,3 +1,5 @@
+-- `op_refusal`: the definition's three tests in their order.
+-- Assumes nothing.
 use mathlib.Core.Path.{_≡_, refl, sym, ap, _∙_}
 use Rattle.words.specs.Refusals.{opRefusal}
 use borrow.Author.Needs.{needs}

@@ -1,3 +1,5 @@
+-- `source_missing`: the definition's test with the fields read from the word.
+-- Assumes nothing.
 use native.Mathlib.Omega.{arith}
 use borrow.Author.Tests.{eq-eqb, ne-eqb, le-leb, lt-leb, lt-ltb, le-ltb}
 use Rattle.numbers.specs.Bits.{bits}

@@ -1,3 +1,5 @@
+-- `ldi_word`: refused, or loaded and stepped.
+-- Assumes nothing.
 use mathlib.Core.Path.{_≡_, _∙_}
 use denote.Ref.{now}
 use Rattle.word.specs.Fields.{ldiFields}

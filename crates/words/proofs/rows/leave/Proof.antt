@@ -1,3 +1,5 @@
+-- `leave`: the pop of an RT word, else the step.
+-- Assumes nothing.
 use borrow.Author.Tests.{le-leb, lt-leb}
 use borrow.Author.Needs.{needs}
 use Rattle.words.proofs.rows.leave.Statement.{statement}

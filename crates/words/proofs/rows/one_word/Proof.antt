@@ -1,3 +1,5 @@
+-- `one_word`: a range of words is a row, and the row decides the definition.
+-- Assumes nothing.
 use denote.Ref.{now}
 use Rattle.words.specs.Word.{wordDone}
 use Rattle.words.proofs.Composed.{fetched-op, fetched-jp, fetched-ldi, fetched-refused}

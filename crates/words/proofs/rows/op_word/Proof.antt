@@ -1,3 +1,5 @@
+-- `op_word`: the stages in a row are the definition (`Composed`).
+-- Assumes nothing.
 use mathlib.Core.Path.{_≡_, ap, _∙_}
 use denote.Ref.{now}
 use lib.Dec.{leb}

@@ -1,3 +1,5 @@
+-- `word_at`: within the image its word, beyond the end 0.
+-- Assumes nothing.
 use mathlib.Core.Path.{sym}
 use denote.Ref.{now}
 use lib.ListN.{List·getD-eq-default}

@@ -1,3 +1,5 @@
+-- `Registers::fit`: the tests one by one, as the definition has them.
+-- Assumes nothing.
 use borrow.Author.Needs.{needs}
 use Rattle.device.specs.Registers.{registersFit}
 use Rattle.device.proofs.registers.Registers.fit.Statement.{statement}

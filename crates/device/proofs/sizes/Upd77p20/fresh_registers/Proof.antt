@@ -1,3 +1,5 @@
+-- `fresh_registers`: every field as the definition says it.
+-- Assumes nothing.
 use borrow.Author.Needs.{needs}
 use Rattle.device.specs.Registers.{freshRegisters}
 use Rattle.device.proofs.sizes.Upd77p20.fresh_registers.Statement.{statement}

@@ -1,3 +1,5 @@
+-- `Destination::of_code`: sixteen codes, sixteen rows of the table.
+-- Assumes nothing.
 use Rattle.numbers.proofs.Codes.{past}
 use Rattle.stages.specs.Codes.{destinations}
 use Rattle.stages.specs.declared.codes.Destination.the-variants.{None}

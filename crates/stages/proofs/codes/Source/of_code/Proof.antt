@@ -1,3 +1,5 @@
+-- `Source::of_code`: sixteen codes, sixteen rows of the table.
+-- Assumes nothing.
 use Rattle.numbers.proofs.Codes.{past}
 use Rattle.stages.specs.Codes.{sources}
 use Rattle.stages.specs.declared.codes.Source.the-variants.{None}
