@@ -12,20 +12,19 @@ run:
 	@rt check bench >target/run.log 2>&1 || { cat target/run.log >&2; exit 1; }
 	@./target/bin/bench
 
-# The comparison first: rt ci starts from nothing and has the last word.
-test: generated compare
-	@rt ci
+test: generated
+	@tools/gate
 
 # Definitions that a script writes are what it writes.
 generated:
 	@tools/setters --check
 
-# The proved arithmetic against the independent emulator.
+# The proved functions against the independent emulator.
 compare: lib
 	@cd host && $(CARGO) test --release
 	@cd host && $(CARGO) run --release --package compare
 
-# The proved arithmetic as a static library.
+# The proved functions as a static library.
 lib:
 	@mkdir -p target
 	@rt staticlib probe >target/lib.log 2>&1 || { cat target/lib.log >&2; exit 1; }
