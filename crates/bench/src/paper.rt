@@ -1,7 +1,7 @@
 // How a line of the list is printed.
 use libc::STDOUT_FILENO;
 
-pub fn text(words: &[u8]) {
+pub(crate) fn text(words: &[u8]) {
     io::write_all(STDOUT_FILENO, words);
 }
 
@@ -50,7 +50,7 @@ fn verdict(agrees: bool) {
 }
 
 // One line of the list each. A name is as long as the heading's.
-pub fn register(case: u64, name: &[u8], expected: u16, found: u16) {
+pub(crate) fn register(case: u64, name: &[u8], expected: u16, found: u16) {
     heading(case, name);
     print_register(expected);
     text(b"     ");
@@ -58,7 +58,7 @@ pub fn register(case: u64, name: &[u8], expected: u16, found: u16) {
     verdict(expected == found);
 }
 
-pub fn flag(case: u64, name: &[u8], expected: bool, found: bool) {
+pub(crate) fn flag(case: u64, name: &[u8], expected: bool, found: bool) {
     heading(case, name);
     print_flag(expected);
     text(b"     ");
