@@ -1,2 +1,4 @@
 pub mod Sums
 pub mod Plans
+pub mod Wrapped
+pub mod Holding

@@ -1,6 +1,6 @@
 -- The six flags of an accumulator after an operation, one definition for each with its sentence of 01, "One OP or RT word".
 use Prim.Native.Nat.{ℕ, _+_}
-use mathlib.Core.Bool.{Bool, true, false, not, _&&_, Bool·beq}
+use mathlib.Core.Bool.{Bool, true, false, not, cond, _&&_, Bool·beq}
 use lib.Dec.{ltb, leb, eqb}
 use lib.IntN.{ℤ}
 use Rattle.numbers.specs.Signed.{leaves}
@@ -35,6 +35,10 @@ s1Of true s1 s0 = s1
 abbrev pub ov1Of : Bool → Bool → Bool → Bool → Bool
 ov1Of false s1 s0 ov0 = ov0
 ov1Of true s1 s0 ov0 = not (ov0 && not (Bool·beq s0 s1))
+
+-- "SGN is 7FFFH if A's S1 is 1, else 8000H"
+abbrev pub sgnOf : Bool → ℕ
+sgnOf s1 = cond s1 0x7fff 0x8000
 
 -- the flags after SUB, ADD, SBB, ADC, DEC or INC: the flags before, the result kept to 16 bits, its C and its OV0
 unfoldable pub sumFlags : Flags → ℕ → Bool → Bool → Flags

@@ -1,6 +1,6 @@
 -- Laws of reversed bits, over the width.
 -- Assumes nothing.
-use Prim.Native.Nat.{ℕ, zero, suc, _+_, _-_, _*_, _/_, _%_, _^_, _≤_, _<_}
+use Prim.Native.Nat.{ℕ, zero, suc, _+_, _-_, _*_, _/_, _%_, _^_, _<_}
 use native.Mathlib.Omega.{arith}
 use native.Mathlib.Nat.{add-zero, add-suc, add-comm, add-mul, mul-assoc, mul-right-comm, pow-suc, div-one, mul-add-div-right, mod-one, mod-eq-of-lt}
 use native.Mathlib.Numerals.{one-add, add-one}

@@ -1,14 +1,15 @@
 -- Laws of a register's signed value, of rounding down and of keeping 16 bits.
 -- Assumes nothing.
-use Prim.Native.Nat.{ℕ, zero, suc, _+_, _-_, _*_, _/_, _%_, _≤_, _<_}
+use Prim.Native.Nat.{ℕ, _+_, _-_, _*_, _/_, _%_, _≤_, _<_}
 use native.Mathlib.Omega.{arith}
 use native.Mathlib.Nat.{div-add-mod', mod-lt, div-le-self, lt-of-le-of-lt, suc-mul}
-use mathlib.Core.Path.{_≡_, refl, sym, ap, _∙_}
+use mathlib.Core.Path.{_≡_, refl}
 use mathlib.Core.Bool.{Bool, true, false, cond, _||_, true≢false}
-use borrow.Author.Tests.{lt-ltb, le-ltb, ltb-true, ltb-false}
-use lib.Dec.{ltb}
+use mathlib.Core.Logic.{_⊎_, inl, inr}
+use borrow.Author.Tests.{ltb-true, ltb-false, eqb-true, eqb-false}
+use lib.Dec.{ltb, eqb}
 use lib.IntN.{ℤ, pos, negsuc, natAbs, _-ℤ_}
-use lib.Signed.{ltZ, shrZ}
+use lib.Signed.{shrZ}
 use mir.Syntax.{w32}
 use mir.Val.{SFits, toZ, ofZ}
 use Rattle.numbers.specs.Signed.{signed, leaves, floorDiv, floorMod, kept16}
@@ -17,17 +18,20 @@ use Rattle.numbers.proofs.Whole.{up, down, ud-sub-nat, ud-eq, ltb-same,
 -- ---- the signed value of a register
 
 -- 32768 more than the signed value is the register with its top bit turned
-pub ud-signed : (x : ℕ) → x < 65536 → up (signed x) + 32768 ≡ (x + 32768) % 65536 + down (signed x)
+pub ud-signed : (x : ℕ) → up (signed x) + 32768 ≡ (x + 32768) % 65536 + down (signed x)
 unfolding signed up down
-ud-signed x h = go (ltb x 32768) refl
+ud-signed x = go (ltb bits 32768) refl
   where
-    go : (t : Bool) → ltb x 32768 ≡ t → up (cond t (pos x) (pos x -ℤ pos 65536)) + 32768 ≡ (x + 32768) % 65536 + down (cond t (pos x) (pos x -ℤ pos 65536))
-    go true e = omega (arith, ltb-true x 32768 e)
-    go false e = omega (arith, ltb-false x 32768 e, ud-sub-nat x 65536)
+    bits : ℕ
+    bits = x % 65536
 
--- the signed value is the register's bits, less 65536 where the top bit is 1
-pub ud-bits : (x : ℕ) → x < 65536 → up (signed x) + x / 32768 * 65536 ≡ x + down (signed x)
-ud-bits x h = omega (arith, ud-signed x h)
+    go : (t : Bool) → ltb bits 32768 ≡ t → up (cond t (pos bits) (pos bits -ℤ pos 65536)) + 32768 ≡ (x + 32768) % 65536 + down (cond t (pos bits) (pos bits -ℤ pos 65536))
+    go true e = omega (arith, ltb-true bits 32768 e)
+    go false e = omega (arith, ltb-false bits 32768 e, ud-sub-nat bits 65536)
+
+-- the signed value differs from the register by a multiple of 65536
+pub ud-bits : (x : ℕ) → up (signed x) + (x + 32768) / 65536 * 65536 ≡ x + down (signed x)
+ud-bits x = omega (arith, ud-signed x)
 
 -- a number that is p - 32768 is at most 32768 away from 0
 abs-near : (z : ℤ) (p : ℕ) → up z + 32768 ≡ p + down z → p ≤ 65536 → natAbs z ≤ 32768
@@ -40,12 +44,20 @@ unfolding up down
 abs-nearer (pos n) p e l h = omega arith
 abs-nearer (negsuc n) p e l h = omega arith
 
-pub abs-signed : (x : ℕ) → x < 65536 → natAbs (signed x) ≤ 32768
-abs-signed x h = abs-near (signed x) ((x + 32768) % 65536) (ud-signed x h) (omega arith)
+pub abs-signed : (x : ℕ) → natAbs (signed x) ≤ 32768
+abs-signed x = abs-near (signed x) ((x + 32768) % 65536) (ud-signed x) (omega arith)
 
--- only 8000H reaches 32768
-pub abs-signed-less : (x : ℕ) → x < 65536 → (x ≡ 32768 → ⊥) → natAbs (signed x) ≤ 32767
-abs-signed-less x h n = abs-nearer (signed x) ((x + 32768) % 65536) (ud-signed x h) (omega arith) (omega arith)
+-- only -32768 reaches 32768
+pub least-or-nearer : (x : ℕ) → (signed x ≡ negsuc 32767) ⊎ (natAbs (signed x) ≤ 32767)
+unfolding up down
+least-or-nearer x = go (eqb biased 0) refl
+  where
+    biased : ℕ
+    biased = (x + 32768) % 65536
+
+    go : (t : Bool) → eqb biased 0 ≡ t → (signed x ≡ negsuc 32767) ⊎ (natAbs (signed x) ≤ 32767)
+    go true e = inl (ud-eq (signed x) (negsuc 32767) (omega (arith, ud-signed x, eqb-true biased 0 e)))
+    go false e = let n = eqb-false biased 0 e in inr (abs-nearer (signed x) biased (ud-signed x) (omega arith) (omega arith))
 
 -- ---- leaving -32768 to 32767
 
@@ -107,7 +119,7 @@ kept16-lt z = floorMod-lt z 65536 (omega arith)
 -- a number that 16 bits hold is kept by them
 pub kept-signed : (z : ℤ) → up z < 32768 + down z → down z ≤ 32768 + up z → signed (kept16 z) ≡ z
 kept-signed z h k =
-    ud-eq (signed (kept16 z)) z (omega (arith, ud-signed (kept16 z) (kept16-lt z), floor-split z 65536 (omega arith), kept16-lt z))
+    ud-eq (signed (kept16 z)) z (omega (arith, ud-signed (kept16 z), floor-split z 65536 (omega arith), kept16-lt z))
 
 -- numbers that differ by a multiple of 65536 are kept alike
 pub kept-alike : (z : ℤ) (n m : ℕ) → up z + m * 65536 ≡ n + down z → kept16 z ≡ n % 65536

@@ -6,9 +6,9 @@ use native.Mathlib.Nat.{zero-mul}
 use mathlib.Core.Path.{_≡_, refl, sym, ap, _∙_}
 use mathlib.Core.Bool.{Bool, true, false, cond}
 use borrow.Author.Tests.{lt-ltb, le-ltb, ltb-true, ltb-false}
-use lib.Dec.{ltb}
+use lib.Dec.{ltb, le→leb}
 use lib.IntN.{ℤ, pos, negsuc, subℕ, negℤ, natAbs, _+ℤ_, _-ℤ_, _*ℤ_}
-use lib.Signed.{ltZ}
+use lib.Signed.{_≤ℤ_, ltZ}
 use mir.Syntax.{w32}
 use mir.Val.{SFits, toZ, ofZ}
 use mir.ValLaws.{toZ-ofZ}
@@ -81,6 +81,13 @@ ltZ-ud (pos a) (pos b) = ltb-same a b (a + 0) (b + 0) (λ h. omega arith) (λ h.
 ltZ-ud (pos a) (negsuc b) = rw (le-ltb (a + suc b) 0 (omega arith))
 ltZ-ud (negsuc a) (pos b) = rw (lt-ltb 0 (b + suc a) (omega arith))
 ltZ-ud (negsuc a) (negsuc b) = ltb-same b a (0 + suc b) (0 + suc a) (λ h. omega arith) (λ h. omega arith)
+
+pub ud-le : (a b : ℤ) → up a + down b ≤ up b + down a → a ≤ℤ b
+unfolding up down
+ud-le (pos a) (pos b) h = record { le = le→leb a b (omega arith) }
+ud-le (pos a) (negsuc b) h = absurd (omega arith)
+ud-le (negsuc a) (pos b) h = record { le = tt }
+ud-le (negsuc a) (negsuc b) h = record { le = le→leb b a (omega arith) }
 
 pub abs-ud : (z : ℤ) → natAbs z ≡ up z + down z
 unfolding up down

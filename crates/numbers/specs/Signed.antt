@@ -6,9 +6,11 @@ use lib.Dec.{ltb}
 use lib.IntN.{ℤ, pos, negsuc, _-ℤ_}
 use lib.Signed.{ltZ}
 
--- the signed value of a register: its bits, less 65536 where the top bit is 1
+-- the signed value of a register: its 16 bits, less 65536 where the top bit is 1
 unfoldable pub signed : ℕ → ℤ
-signed x = cond (ltb x 32768) (pos x) (pos x -ℤ pos 65536)
+signed x =
+    let bits = x % 65536 in
+    cond (ltb bits 32768) (pos bits) (pos bits -ℤ pos 65536)
 
 -- "leaves -32768 to 32767"
 unfoldable pub leaves : ℤ → Bool
@@ -26,3 +28,7 @@ floorMod (negsuc n) m = m - 1 - n % m
 -- "kept to 16 bits"
 abbrev pub kept16 : ℤ → ℕ
 kept16 z = floorMod z 65536
+
+-- "held within" two ends: z, or the end that it is beyond
+unfoldable pub held : ℤ → ℤ → ℤ → ℤ
+held least most z = cond (ltZ z least) least (cond (ltZ most z) most z)

@@ -1,8 +1,9 @@
 -- The bus: 01, "Bus: DP and RP fill with zeros ..".
 use Prim.Native.Nat.{ℕ}
-use mathlib.Core.Bool.{false, cond}
+use mathlib.Core.Bool.{false}
 use mathlib.Core.List.{List}
 use Rattle.numbers.specs.Reversal.{reversed16}
+use Rattle.alu.specs.Flags.{sgnOf}
 use Rattle.device.specs.Device.{upd77p20, cellValue}
 use Rattle.device.specs.Set.{set-sr, set-siack}
 use Rattle.device.specs.declared.registers.Registers.{Registers}
@@ -22,7 +23,7 @@ busOf r Source.Rp ram rom = r .rp .0
 -- "RO is the cell times 8"
 busOf r Source.Ro ram rom = cellValue upd77p20 (cellAt rom (r .rp .0))
 -- "SGN is 7FFFH if A's S1 is 1, else 8000H"
-busOf r Source.Sgn ram rom = cond (r .flags .a .s1) 0x7fff 0x8000
+busOf r Source.Sgn ram rom = sgnOf (r .flags .a .s1)
 busOf r Source.Dr ram rom = r .dr
 busOf r Source.Drnf ram rom = r .dr
 busOf r Source.Sr ram rom = r .sr

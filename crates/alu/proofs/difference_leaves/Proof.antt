@@ -11,7 +11,7 @@ use Rattle.alu.proofs.difference_leaves.Tie as tie
 returns : tie.Need-returns
 returns c =
     let a = c .before .before .args in
-    rw (c .biased2 .ensures, c .before .biased .ensures) (sym (leaves-biased _ _ (difference-biased (a .x) (a .y) (a .k) (omega arith) (omega arith) (c .before .before .pre))))
+    rw (c .biased2 .ensures, c .before .biased .ensures) (sym (leaves-biased _ _ (difference-biased (a .x) (a .y) (a .k) (c .before .before .pre))))
 
 pub difference-leaves-spec : {M : Type 1} → statement M
 difference-leaves-spec =

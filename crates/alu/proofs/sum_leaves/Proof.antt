@@ -11,7 +11,7 @@ use Rattle.alu.proofs.sum_leaves.Tie as tie
 returns : tie.Need-returns
 returns c =
     let a = c .before .before .args in
-    rw (c .biased2 .ensures, c .before .biased .ensures) (sym (leaves-biased _ _ (sum-biased (a .x) (a .y) (a .k) (omega arith) (omega arith))))
+    rw (c .biased2 .ensures, c .before .biased .ensures) (sym (leaves-biased _ _ (sum-biased (a .x) (a .y) (a .k))))
 
 pub sum-leaves-spec : {M : Type 1} → statement M
 sum-leaves-spec =

@@ -24,7 +24,7 @@ module _ (c : tie.After-sign-extend2) where
       )
 
   fits : SFits w32 (product (c .before .before .args .k) (c .before .before .args .l))
-  fits = product-fits _ _ (omega arith) (omega arith)
+  fits = product-fits _ _
 
 mul-result : tie.Need-mul-result
 mul-result c = rw (read c) (fits c)

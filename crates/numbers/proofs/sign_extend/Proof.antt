@@ -19,10 +19,10 @@ module _ (c : tie.After-wrapping-add-u16) where
       let x = c .before .args .x in
       let t = c .wrapping-add-u16 .result in
       rw (toZ-pos w32 t (omega arith))
-      (ud-eq (pos t -ℤ pos 32768) (signed x) (omega (arith, ud-sub (pos t) (pos 32768), ud-pos t, ud-pos 32768, ud-signed x (omega arith))))
+      (ud-eq (pos t -ℤ pos 32768) (signed x) (omega (arith, ud-sub (pos t) (pos 32768), ud-pos t, ud-pos 32768, ud-signed x)))
 
   fits : SFits w32 (signed (c .before .args .x))
-  fits = sfits-ud (signed (c .before .args .x)) _ 32768 (ud-signed (c .before .args .x) (omega arith)) (omega arith) (omega arith)
+  fits = sfits-ud (signed (c .before .args .x)) _ 32768 (ud-signed (c .before .args .x)) (omega arith) (omega arith)
 
 sub-result : tie.Need-sub-result
 sub-result c = rw (less c) (fits c)
