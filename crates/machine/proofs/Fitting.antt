@@ -6,13 +6,14 @@ use mathlib.Core.Path.{_≡_}
 use mathlib.Core.Bool.{true}
 use mathlib.Core.List.{List}
 use lib.Dec.{eqb}
+use Rattle.numbers.proofs.Choices.{of-cond, of-getD}
 use Rattle.device.specs.Device.{upd77p20}
 use Rattle.device.specs.Registers.{registersFit}
 use Rattle.device.specs.declared.registers.Registers.{Registers}
 use Rattle.status.specs.Status.{drs, drc, ei, withoutRqm}
 use Rattle.words.specs.Refusals.{stackFull}
 use Rattle.words.specs.Word.{wordDone}
-use Rattle.words.proofs.Fitting.{SrFits, Fit, fit-of, fits-of, of-cond, of-getD, fit-pc, fit-sr, withoutRqm-fits, withDrs-fits, withoutDrs-fits, withoutEi-fits, pushed-fit}
+use Rattle.words.proofs.Fitting.{SrFits, Fit, fit-of, fits-of, fit-pc, fit-sr, withoutRqm-fits, withDrs-fits, withoutDrs-fits, withoutEi-fits, pushed-fit}
 use Rattle.words.proofs.WordFits.{word-fit}
 use Rattle.machine.specs.Replies.{Ending}
 use Rattle.machine.specs.Run.{ran}

@@ -1,72 +1,34 @@
 -- What a reader asks of a call, shown of the definitions.
 -- Assumes nothing.
-use Prim.Native.Nat.{ℕ, zero, suc}
+use Prim.Native.Nat.{ℕ, suc}
 use native.Mathlib.Omega.{arith}
 use mathlib.Core.Path.{_≡_, refl, sym, ap, _∙_}
 use mathlib.Core.Bool.{Bool, true, false, cond}
 use mathlib.Core.List.{List}
 use Rattle.numbers.specs.Bits.{bits}
-use Rattle.device.specs.Device.{upd77p20}
-use Rattle.device.specs.Registers.{clearFlags, registersFit}
+use Rattle.device.specs.Registers.{clearFlags}
 use Rattle.device.specs.Set.{set-dr, set-sr}
 use Rattle.device.specs.declared.registers.Registers.{Registers}
-use Rattle.status.specs.Status.{drs, drc, ei, withDrs, withoutDrs, withoutRqm}
-use Rattle.words.specs.Refusals.{stackFull}
+use Rattle.status.specs.Status.{drs, drc, withDrs, withoutDrs, withoutRqm}
+use Rattle.machine.proofs.Endings.{by-tests, by-kinds}
 use Rattle.machine.specs.Replies.{Ending, refusedCall, answered}
 use Rattle.machine.specs.Host.{statusAccessed, byteRead, hostRead, hostWritten}
-use Rattle.machine.specs.Events.{lengthsFit, allowed, interrupted, serialOut, serialOutEnding, interruptEnding, reset, kindDone, eventDone}
+use Rattle.machine.specs.Events.{reset, kindDone, eventDone}
 
 -- ---- a refused event changes nothing
-
--- a call that is refused as a whole, or the event of its kind
-by-tests : (P : Ending → Type 0) (r : Registers) (program rom ram : List ℕ) (kind value : ℕ)
-    → ((number : ℕ) → P (refusedCall (suc number) r ram)) → P (kindDone kind value r program rom ram) → P (eventDone r program rom ram kind value)
-unfolding eventDone
-by-tests P r program rom ram kind value refused done = go (lengthsFit program rom ram) (registersFit upd77p20 r) (allowed kind value)
-  where
-    go : (s t u : Bool) → P (cond s (cond t (cond u (kindDone kind value r program rom ram) (refusedCall 3 r ram)) (refusedCall 2 r ram)) (refusedCall 1 r ram))
-    go true true true = done
-    go true true false = refused 2
-    go true false u = refused 1
-    go false t u = refused 0
 
 -- of an ending whose number is not 0: no words done, value 0, registers and RAM as they were
 abbrev pub Untouched : Registers → List ℕ → Ending → Type 0
 Untouched r ram e = (e .number ≡ 0 → ⊥) → e ≡ refusedCall (e .number) r ram
 
-done-untouched : (r : Registers) (ram : List ℕ) (value : ℕ) (q : Registers) (after : List ℕ) → Untouched r ram (answered value q after)
-done-untouched r ram value q after h = absurd (h refl)
-
-serial-untouched : (r : Registers) (ram : List ℕ) → Untouched r ram (serialOutEnding r ram)
-unfolding serialOutEnding
-serial-untouched r ram = go (r .sorq)
-  where
-    go : (t : Bool) → Untouched r ram (cond t (answered (r .so) (serialOut r) ram) (refusedCall 10 r ram))
-    go true h = absurd (h refl)
-    go false h = refl
-
-interrupt-untouched : (r : Registers) (ram : List ℕ) → Untouched r ram (interruptEnding r ram)
-unfolding interruptEnding
-interrupt-untouched r ram = go (ei (r .sr)) (stackFull r)
-  where
-    go : (s t : Bool) → Untouched r ram (cond s (cond t (refusedCall 9 r ram) (answered 0 (interrupted r) ram)) (answered 0 r ram))
-    go true true h = refl
-    go true false h = absurd (h refl)
-    go false t h = absurd (h refl)
-
-kind-untouched : (kind value : ℕ) (r : Registers) (program rom ram : List ℕ) → Untouched r ram (kindDone (suc kind) value r program rom ram)
-unfolding kindDone
-kind-untouched zero value r program rom ram = done-untouched r ram _ _ _
-kind-untouched (suc zero) value r program rom ram = done-untouched r ram _ _ _
-kind-untouched (suc (suc zero)) value r program rom ram = done-untouched r ram _ _ _
-kind-untouched (suc (suc (suc zero))) value r program rom ram = done-untouched r ram _ _ _
-kind-untouched (suc (suc (suc (suc zero)))) value r program rom ram = serial-untouched r ram
-kind-untouched (suc (suc (suc (suc (suc zero))))) value r program rom ram = interrupt-untouched r ram
-kind-untouched (suc (suc (suc (suc (suc (suc kind)))))) value r program rom ram = done-untouched r ram _ _ _
-
 -- a refused event other than a run changes nothing; a run's refused word is the subject of Counting.antt
 pub event-refused : (r : Registers) (program rom ram : List ℕ) (kind value : ℕ) → Untouched r ram (eventDone r program rom ram (suc kind) value)
-event-refused r program rom ram kind value = by-tests (Untouched r ram) r program rom ram (suc kind) value (λ number h. refl) (kind-untouched kind value r program rom ram)
+event-refused r program rom ram kind value =
+    by-kinds (Untouched r ram) r program rom ram kind value
+    (record { refused = λ number h. refl; read = done; written = done; status = done; word-in = done; word-out = done; taken = done; ignored = done }) (λ e. done)
+  where
+    done : {v : ℕ} {q : Registers} → Untouched r ram (answered v q ram)
+    done h = absurd (h refl)
 
 -- ---- the host's port
 
@@ -110,40 +72,28 @@ nothing r = record { others = refl; middle = refl; low = refl }
 
 pub host-read-only : (r : Registers) (program rom ram : List ℕ) (value : ℕ) → HostOnly r (eventDone r program rom ram 1 value .registers)
 unfolding kindDone
-host-read-only r program rom ram value = by-tests (λ e. HostOnly r (e .registers)) r program rom ram 1 value (λ n. nothing r) (read-only r)
+host-read-only r program rom ram value = by-tests (λ e. HostOnly r (e .registers)) r program rom ram 1 value (λ n. nothing r) (λ ok. read-only r)
 
 pub host-write-only : (r : Registers) (program rom ram : List ℕ) (value : ℕ) → HostOnly r (eventDone r program rom ram 2 value .registers)
 unfolding kindDone
-host-write-only r program rom ram value = by-tests (λ e. HostOnly r (e .registers)) r program rom ram 2 value (λ n. nothing r) (write-only r value)
+host-write-only r program rom ram value = by-tests (λ e. HostOnly r (e .registers)) r program rom ram 2 value (λ n. nothing r) (λ ok. write-only r value)
 
--- no event but a run touches the RAM
-ram-kept : (kind value : ℕ) (r : Registers) (program rom ram : List ℕ) → kindDone (suc kind) value r program rom ram .ram ≡ ram
-unfolding kindDone serialOutEnding interruptEnding
-ram-kept zero value r program rom ram = refl
-ram-kept (suc zero) value r program rom ram = refl
-ram-kept (suc (suc zero)) value r program rom ram = refl
-ram-kept (suc (suc (suc zero))) value r program rom ram = refl
-ram-kept (suc (suc (suc (suc zero)))) value r program rom ram = go (r .sorq)
-  where
-    go : (t : Bool) → cond t (answered (r .so) (serialOut r) ram) (refusedCall 10 r ram) .ram ≡ ram
-    go true = refl
-    go false = refl
-ram-kept (suc (suc (suc (suc (suc zero))))) value r program rom ram = go (ei (r .sr)) (stackFull r)
-  where
-    go : (s t : Bool) → cond s (cond t (refusedCall 9 r ram) (answered 0 (interrupted r) ram)) (answered 0 r ram) .ram ≡ ram
-    go true true = refl
-    go true false = refl
-    go false t = refl
-ram-kept (suc (suc (suc (suc (suc (suc kind)))))) value r program rom ram = refl
-
+-- no event but a run touches the RAM or counts words
 pub event-keeps-ram : (r : Registers) (program rom ram : List ℕ) (kind value : ℕ) → eventDone r program rom ram (suc kind) value .ram ≡ ram
-event-keeps-ram r program rom ram kind value = by-tests (λ e. e .ram ≡ ram) r program rom ram (suc kind) value (λ n. refl) (ram-kept kind value r program rom ram)
+event-keeps-ram r program rom ram kind value =
+    by-kinds (λ e. e .ram ≡ ram) r program rom ram kind value
+    (record { refused = λ number. refl; read = refl; written = refl; status = refl; word-in = refl; word-out = refl; taken = refl; ignored = refl }) (λ e. refl)
+
+pub event-counts-none : (r : Registers) (program rom ram : List ℕ) (kind value : ℕ) → eventDone r program rom ram (suc kind) value .words ≡ 0
+event-counts-none r program rom ram kind value =
+    by-kinds (λ e. e .words ≡ 0) r program rom ram kind value
+    (record { refused = λ number. refl; read = refl; written = refl; status = refl; word-in = refl; word-out = refl; taken = refl; ignored = refl }) (λ e. refl)
 
 -- an answered read is a read
 pub host-read-done : (r : Registers) (program rom ram : List ℕ) (value : ℕ) → eventDone r program rom ram 1 value .number ≡ 0 → eventDone r program rom ram 1 value ≡ answered (byteRead r) (hostRead r) ram
 unfolding kindDone
 host-read-done r program rom ram value =
-    by-tests (λ e. e .number ≡ 0 → e ≡ answered (byteRead r) (hostRead r) ram) r program rom ram 1 value (λ n e. absurd (omega arith)) (λ e. refl)
+    by-tests (λ e. e .number ≡ 0 → e ≡ answered (byteRead r) (hostRead r) ram) r program rom ram 1 value (λ n e. absurd (omega arith)) (λ ok e. refl)
 
 -- an answered read hands the byte of DR and SR, an answered look at the status SR's high byte
 pub byte-handed : (r : Registers) (program rom ram : List ℕ) (value : ℕ) → eventDone r program rom ram 1 value .number ≡ 0 → eventDone r program rom ram 1 value .value ≡ byteRead r
@@ -151,7 +101,7 @@ byte-handed r program rom ram value e = ap (λ x. x .value) (host-read-done r pr
 
 pub status-handed : (r : Registers) (program rom ram : List ℕ) (value : ℕ) → eventDone r program rom ram 3 value .number ≡ 0 → eventDone r program rom ram 3 value .value ≡ bits (r .sr) 15 8
 unfolding kindDone
-status-handed r program rom ram value = by-tests (λ e. e .number ≡ 0 → e .value ≡ bits (r .sr) 15 8) r program rom ram 3 value (λ n e. absurd (omega arith)) (λ e. refl)
+status-handed r program rom ram value = by-tests (λ e. e .number ≡ 0 → e .value ≡ bits (r .sr) 15 8) r program rom ram 3 value (λ n e. absurd (omega arith)) (λ ok e. refl)
 
 same-byte : (r s : Registers) → r .dr ≡ s .dr → r .sr ≡ s .sr → byteRead r ≡ byteRead s
 unfolding byteRead
@@ -209,4 +159,4 @@ resets r =
 
 pub event-resets : (r : Registers) (program rom ram : List ℕ) (value : ℕ) → eventDone r program rom ram 7 value .number ≡ 0 → Reset r (eventDone r program rom ram 7 value .registers)
 unfolding kindDone
-event-resets r program rom ram value = by-tests (λ e. e .number ≡ 0 → Reset r (e .registers)) r program rom ram 7 value (λ n e. absurd (omega arith)) (λ e. resets r)
+event-resets r program rom ram value = by-tests (λ e. e .number ≡ 0 → Reset r (e .registers)) r program rom ram 7 value (λ n e. absurd (omega arith)) (λ ok e. resets r)

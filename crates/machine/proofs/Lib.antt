@@ -3,4 +3,5 @@ pub mod Calls
 pub mod Answers
 pub mod Counting
 pub mod Fitting
+pub mod Endings
 pub mod Frames

@@ -1,14 +1,13 @@
 -- What a run's loop keeps: the words to go from here give what the whole run gives.
 -- Assumes nothing.
-use Prim.Native.Nat.{ℕ, zero, suc, _+_, _-_, _≤_, _<_}
+use Prim.Native.Nat.{ℕ, suc, _+_, _-_, _≤_, _<_}
 use native.Mathlib.Omega.{arith}
 use mathlib.Core.Path.{_≡_, refl, sym, ap, _∙_}
 use mathlib.Core.List.{List}
 use lib.ListN.{length}
-use borrow.Author.Tests.{ne-eqb, eq-eqb}
+use borrow.Author.Tests.{ne-eqb}
 use Rattle.device.specs.declared.registers.Registers.{Registers}
 use Rattle.words.specs.Outcomes.{Outcome}
-use Rattle.machine.specs.Replies.{Ending}
 use Rattle.words.specs.Word.{wordDone}
 use Rattle.machine.specs.Run.{ran}
 

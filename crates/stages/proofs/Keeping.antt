@@ -1,11 +1,12 @@
 -- What a stage leaves alone.
 -- Assumes nothing.
-use Prim.Native.Nat.{ℕ, zero, suc}
+use Prim.Native.Nat.{ℕ}
 use mathlib.Core.Path.{_≡_, refl, ap, _∙_}
 use mathlib.Core.Bool.{Bool, true, false, cond}
 use mathlib.Core.List.{List}
 use borrow.Author.Tests.{eqb-false}
 use lib.Dec.{eqb}
+use Rattle.numbers.proofs.Choices.{of-getD-but}
 use Rattle.alu.specs.declared.Accumulator.{Accumulator}
 use Rattle.alu.specs.Operations.{operated}
 use Rattle.device.specs.declared.registers.Registers.{Registers}
@@ -18,7 +19,7 @@ use Rattle.device.specs.declared.pointers.RomPointer.{RomPointer}
 use Rattle.device.proofs.Widths.{ramPointerMoved-still}
 use Rattle.stages.specs.Accumulators.{operandOf, storedA, storedB, blocked, accumulated}
 use Rattle.stages.specs.Bus.{readFrom}
-use Rattle.stages.specs.Codes.{destinationOf}
+use Rattle.stages.specs.Codes.{destinations, destinationOf}
 use Rattle.stages.specs.Destinations.{loaded}
 use Rattle.stages.specs.declared.codes.Source.{Source}
 use Rattle.stages.specs.declared.codes.Source.the-variants as Source
@@ -98,45 +99,17 @@ accumulated-pointers r q f bus ram = go (blocked f) (eqb (f .asl) 0) _ _
 
 -- only DST 4 loads DP, and only DST 5 loads RP
 module _ (dp : RamPointer) (rp : RomPointer) (q : Registers) (bus : ℕ) (ram rom : List ℕ) where
-  loaded-dp : (n : ℕ) → (n ≡ 4 → ⊥) → loaded dp rp q (destinationOf n) bus ram rom .dp ≡ q .dp
+  loaded-dp : (dst : ℕ) → (dst ≡ 4 → ⊥) → loaded dp rp q (destinationOf dst) bus ram rom .dp ≡ q .dp
   unfolding loaded
-  loaded-dp zero h = refl
-  loaded-dp (suc zero) h = refl
-  loaded-dp (suc (suc zero)) h = refl
-  loaded-dp (suc (suc (suc zero))) h = refl
-  loaded-dp (suc (suc (suc (suc zero)))) h = absurd (h refl)
-  loaded-dp (suc (suc (suc (suc (suc zero))))) h = refl
-  loaded-dp (suc (suc (suc (suc (suc (suc zero)))))) h = refl
-  loaded-dp (suc (suc (suc (suc (suc (suc (suc zero))))))) h = refl
-  loaded-dp (suc (suc (suc (suc (suc (suc (suc (suc zero)))))))) h = refl
-  loaded-dp (suc (suc (suc (suc (suc (suc (suc (suc (suc zero))))))))) h = refl
-  loaded-dp (suc (suc (suc (suc (suc (suc (suc (suc (suc (suc zero)))))))))) h = refl
-  loaded-dp (suc (suc (suc (suc (suc (suc (suc (suc (suc (suc (suc zero))))))))))) h = refl
-  loaded-dp (suc (suc (suc (suc (suc (suc (suc (suc (suc (suc (suc (suc zero)))))))))))) h = refl
-  loaded-dp (suc (suc (suc (suc (suc (suc (suc (suc (suc (suc (suc (suc (suc zero))))))))))))) h = refl
-  loaded-dp (suc (suc (suc (suc (suc (suc (suc (suc (suc (suc (suc (suc (suc (suc zero)))))))))))))) h = refl
-  loaded-dp (suc (suc (suc (suc (suc (suc (suc (suc (suc (suc (suc (suc (suc (suc (suc zero))))))))))))))) h = refl
-  loaded-dp (suc (suc (suc (suc (suc (suc (suc (suc (suc (suc (suc (suc (suc (suc (suc (suc n)))))))))))))))) h = refl
+  loaded-dp dst =
+      of-getD-but (λ d. loaded dp rp q d bus ram rom .dp ≡ q .dp) destinations 4 dst
+      (refl, (refl, (refl, (refl, (refl, (refl, (refl, (refl, (refl, (refl, (refl, (refl, (refl, (refl, (refl, tt))))))))))))))) refl
 
-  loaded-rp : (n : ℕ) → (n ≡ 5 → ⊥) → loaded dp rp q (destinationOf n) bus ram rom .rp ≡ q .rp
+  loaded-rp : (dst : ℕ) → (dst ≡ 5 → ⊥) → loaded dp rp q (destinationOf dst) bus ram rom .rp ≡ q .rp
   unfolding loaded
-  loaded-rp zero h = refl
-  loaded-rp (suc zero) h = refl
-  loaded-rp (suc (suc zero)) h = refl
-  loaded-rp (suc (suc (suc zero))) h = refl
-  loaded-rp (suc (suc (suc (suc zero)))) h = refl
-  loaded-rp (suc (suc (suc (suc (suc zero))))) h = absurd (h refl)
-  loaded-rp (suc (suc (suc (suc (suc (suc zero)))))) h = refl
-  loaded-rp (suc (suc (suc (suc (suc (suc (suc zero))))))) h = refl
-  loaded-rp (suc (suc (suc (suc (suc (suc (suc (suc zero)))))))) h = refl
-  loaded-rp (suc (suc (suc (suc (suc (suc (suc (suc (suc zero))))))))) h = refl
-  loaded-rp (suc (suc (suc (suc (suc (suc (suc (suc (suc (suc zero)))))))))) h = refl
-  loaded-rp (suc (suc (suc (suc (suc (suc (suc (suc (suc (suc (suc zero))))))))))) h = refl
-  loaded-rp (suc (suc (suc (suc (suc (suc (suc (suc (suc (suc (suc (suc zero)))))))))))) h = refl
-  loaded-rp (suc (suc (suc (suc (suc (suc (suc (suc (suc (suc (suc (suc (suc zero))))))))))))) h = refl
-  loaded-rp (suc (suc (suc (suc (suc (suc (suc (suc (suc (suc (suc (suc (suc (suc zero)))))))))))))) h = refl
-  loaded-rp (suc (suc (suc (suc (suc (suc (suc (suc (suc (suc (suc (suc (suc (suc (suc zero))))))))))))))) h = refl
-  loaded-rp (suc (suc (suc (suc (suc (suc (suc (suc (suc (suc (suc (suc (suc (suc (suc (suc n)))))))))))))))) h = refl
+  loaded-rp dst =
+      of-getD-but (λ d. loaded dp rp q d bus ram rom .rp ≡ q .rp) destinations 5 dst
+      (refl, (refl, (refl, (refl, (refl, (refl, (refl, (refl, (refl, (refl, (refl, (refl, (refl, (refl, (refl, tt))))))))))))))) refl
 
 -- a pointer is moved from where it was, or is what was loaded
 pub pointed-loaded : (dp : RamPointer) (rp : RomPointer) (q : Registers) (f : OpFields) (bus : ℕ) (ram rom : List ℕ) → q .dp ≡ dp → q .rp ≡ rp

@@ -2,18 +2,17 @@
 -- Assumes nothing.
 use Prim.Native.Nat.{ℕ, _≤_, _<_}
 use native.Mathlib.Omega.{arith}
-use mathlib.Core.Path.{_≡_, refl, sym, ap, _∙_}
+use mathlib.Core.Path.{_≡_, refl, ap, _∙_}
 use mathlib.Core.Bool.{Bool, true, false}
 use mathlib.Core.List.{List}
-use borrow.Author.Tests.{ne-eqb, eq-eqb, lt-ltb, le-ltb, le-leb, lt-leb, ltb-true, ltb-false}
-use lib.Dec.{ltb, leb, eqb}
+use borrow.Author.Tests.{ne-eqb, lt-ltb, le-ltb, le-leb, lt-leb, ltb-true, ltb-false}
+use lib.Dec.{ltb, leb}
 use Rattle.numbers.specs.Bits.{bits}
 use Rattle.device.specs.declared.registers.Registers.{Registers}
 use Rattle.word.specs.Fields.{opFields, jpFields, ldiFields}
 use Rattle.word.specs.Word.{wordOf, takenApart}
 use Rattle.word.specs.declared.OpFields.{OpFields}
 use Rattle.word.specs.declared.LdiFields.{LdiFields}
-use Rattle.word.specs.declared.Word.the-variants.{Jp, Ldi}
 use Rattle.stages.specs.Codes.{sourceOf, destinationOf}
 use Rattle.stages.specs.declared.codes.Source.{Source}
 use Rattle.stages.specs.declared.codes.Destination.{Destination}
@@ -22,12 +21,12 @@ use Rattle.stages.specs.Accumulators.{accumulated}
 use Rattle.stages.specs.Destinations.{loaded, ramLoaded}
 use Rattle.stages.specs.Pointing.{pointed}
 use Rattle.stages.proofs.Keeping.{accumulated-read, read-pointers, accumulated-pointers, pointed-loaded}
-use Rattle.words.specs.Outcomes.{Outcome, refusedWord, finishedWord}
+use Rattle.words.specs.Outcomes.{refusedWord, finishedWord}
 use Rattle.words.specs.Refusals.{opRefusal, ldiRefusal}
 use Rattle.words.specs.Operation.{opBus, opPointed, opRam, left, opWord}
 use Rattle.words.specs.Load.{ldiRegisters, ldiWord}
 use Rattle.words.specs.Jump.{jpWord}
-use Rattle.words.specs.Word.{rowDone, fetchedDone}
+use Rattle.words.specs.Word.{fetchedDone}
 
 -- ---- an OP or RT word
 

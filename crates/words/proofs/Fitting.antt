@@ -1,14 +1,14 @@
 -- A stage leaves registers that fit their widths, where they fitted before it: one that sets no register of limited width leaves `FitAt` as it stands.
 -- Assumes nothing.
-use Prim.Native.Nat.{ℕ, zero, suc, _+_, _-_, _/_, _%_, _^_, _<_, _≤_}
+use Prim.Native.Nat.{ℕ, _+_, _-_, _/_, _%_, _^_, _<_, _≤_}
 use native.Mathlib.Omega.{arith}
 use mathlib.Core.Path.{_≡_}
-use mathlib.Core.Bool.{Bool, true, false, cond, and-eq-true-iff}
+use mathlib.Core.Bool.{true, and-eq-true-iff}
 use mathlib.Core.List.{List, [], _∷_}
 use borrow.Author.Tests.{ltb-true, leb-true, eqb-true, lt-ltb, le-leb, eq-eqb}
 use lib.Dec.{eqb}
-use lib.ListN.{getD}
 use Rattle.numbers.specs.Bits.{bits, at}
+use Rattle.numbers.proofs.Choices.{of-cond, of-getD}
 use Rattle.device.specs.Device.{upd77p20}
 use Rattle.device.specs.Registers.{registersFit}
 use Rattle.device.specs.Set.{set-depth, set-stack0, set-stack1, set-stack2, set-stack3}
@@ -57,22 +57,6 @@ fit-of r e = let parts = simp and-eq-true-iff at e in omega (arith, ltb-true, le
 pub fits-of : (r : Registers) → Fit r → registersFit upd77p20 r ≡ true
 unfolding registersFit
 fits-of r h = simp and-eq-true-iff (omega (arith, lt-ltb, le-leb, eq-eqb))
-
--- ---- what holds of all that may be chosen holds of the choice
-
-module _ {A : Type 0} (P : A → Type 0) where
-  pub of-cond : (t : Bool) {x y : A} → P x → P y → P (cond t x y)
-  of-cond true h k = h
-  of-cond false h k = k
-
-  abbrev pub All : List A → Type 0
-  All [] = Unit
-  All (x ∷ l) = P x × All l
-
-  pub of-getD : (l : List A) (n : ℕ) {d : A} → All l → P d → P (getD l n d)
-  of-getD [] n h k = k
-  of-getD (x ∷ l) zero h k = h .0
-  of-getD (x ∷ l) (suc n) h k = of-getD l n (h .1) k
 
 -- ---- one register set
 

@@ -6,6 +6,7 @@ use mathlib.Core.Path.{_≡_}
 use mathlib.Core.Bool.{Bool, true, false}
 use mathlib.Core.List.{List, [], _∷_}
 use lib.Dec.{ltb, eqb}
+use Rattle.numbers.proofs.Choices.{of-cond, of-getD}
 use Rattle.numbers.specs.Bits.{bits}
 use Rattle.device.specs.Device.{upd77p20, wordLimit}
 use Rattle.device.specs.Lent.{cellAt}
@@ -30,7 +31,7 @@ use Rattle.words.specs.Operation.{opBus, opRead, opOperated, opLoaded, o
 use Rattle.words.specs.Jump.{jpRegisters, jpWord}
 use Rattle.words.specs.Load.{ldiWord}
 use Rattle.words.specs.Word.{rowDone, fetchedDone, wordDone}
-use Rattle.words.proofs.Fitting.{Fit, fit-of, fits-of, of-cond, of-getD, fit-pc, read-fit, accumulated-fit, loaded-fit, pointed-fit, pushed-fit, popped-fit, stepped-fit}
+use Rattle.words.proofs.Fitting.{Fit, fit-of, fits-of, fit-pc, read-fit, accumulated-fit, loaded-fit, pointed-fit, pushed-fit, popped-fit, stepped-fit}
 
 -- the registers that a word leaves behind fit
 abbrev FitWord : Outcome → Type 0
