@@ -1,0 +1,59 @@
+-- Demand 3 over the machine's own definitions, clause by clause in its words.
+use Prim.Native.Nat.{_≤_}
+use mathlib.Core.Path.{_≡_}
+use mathlib.Core.Bool.{false}
+use mathlib.Core.List.{List}
+use lib.IntN.{ℤ}
+use lib.ListN.{length}
+use Rattle.alu.specs.Sums.{answerOf}
+use Rattle.multiplier.specs.Product.{BothLeast}
+use Rattle.device.specs.declared.registers.Registers.{Registers}
+use Rattle.stages.specs.Accumulators.{accumulatorA}
+use Rattle.accuracy.specs.Every.{Every}
+use Rattle.accuracy.specs.Exact.{Inputs, Accurate}
+use Rattle.accuracy.specs.Deeds.{Call, Deed, word, event, deeds, after}
+use Rattle.accuracy.specs.Adding.{addsM, operatesOnA, loadsA, added}
+
+-- "Start accumulator A at a signed value with its OV1 flag 0."
+abbrev pub Clear : Registers → Type 0
+Clear r = r .flags .a .ov1 ≡ false
+
+-- "Run any words and events without a reset": event 7
+abbrev pub NoReset : Deed → Type 0
+NoReset (word w r) = Unit
+NoReset (event kind) = kind ≡ 7 → ⊥
+
+abbrev pub Unreset : Registers → List Call → Type 0
+Unreset r calls = Every NoReset (deeds r calls)
+
+-- "in which at most three words add M to A"
+abbrev pub AtMostThree : Registers → List Call → Type 0
+AtMostThree r calls = length (added (deeds r calls)) ≤ 3
+
+-- "and nothing else operates on A or loads it"
+abbrev pub NothingElse : Deed → Type 0
+NothingElse (word w r) = addsM w ≡ false → (operatesOnA w ≡ false) × (loadsA w ≡ false)
+NothingElse (event kind) = Unit
+
+abbrev pub Alone : Registers → List Call → Type 0
+Alone r calls = Every NothingElse (deeds r calls)
+
+-- "and no adding word finds both multiplier inputs at -32768."
+abbrev pub NotBoth : Inputs → Type 0
+NotBoth p = BothLeast (p .k) (p .l) → ⊥
+
+abbrev pub Apart : Registers → List Call → Type 0
+Apart r calls = Every NotBoth (added (deeds r calls))
+
+-- "Take A if OV1 is 0, else SGN."
+abbrev pub answer : Registers → ℤ
+answer r = answerOf (accumulatorA r)
+
+-- "In 32768ths, the exact start plus exact products, held within -32768 to 32767 whole, is never below that answer, and above it by at most
+-- 32767 for each word added."
+abbrev pub Near : Registers → List Call → Type 0
+Near r calls = Accurate (r .a) (added (deeds r calls)) (answer (after r calls))
+
+-- for any registers, and any calls with any images, RAM, kinds and values
+abbrev pub Demand3 : Type 0
+Demand3 = (r : Registers) (calls : List Call) → Clear r → Unreset r calls → AtMostThree r calls → Alone r calls → Apart r calls → Near r calls

@@ -1,0 +1,8 @@
+pub mod Every
+pub mod Exact
+pub mod Deeds
+pub mod Listed
+pub mod Adding
+pub mod Demand3
+pub mod Corollaries
+pub mod Examples
