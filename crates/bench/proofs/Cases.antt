@@ -5,10 +5,11 @@ use native.Mathlib.Omega.{arith}
 use mathlib.Core.Path.{_≡_, refl, ap, _∙_}
 use mathlib.Core.Bool.{false}
 use Rattle.numbers.specs.Bits.{bits}
-use Rattle.numbers.specs.Signed.{signed, leaves, floorDiv, floorMod}
+use Rattle.numbers.specs.Signed.{signed, leaves, floorDiv, floorMod, held}
 use Rattle.numbers.specs.Reversal.{reversed}
 use Rattle.alu.specs.Flags.{sumFlags}
 use Rattle.alu.specs.Operations.{plus, operated}
+use Rattle.alu.specs.Sums.{summed, wholeSum}
 use Rattle.multiplier.specs.Product.{product, mOf, nOf}
 use Rattle.device.specs.Pointers.{ramPointerMoved}
 use Rattle.device.specs.declared.registers.Registers.{Registers}
@@ -23,7 +24,11 @@ use Rattle.words.specs.Word.{fetchedDone, wordDone}
 use Rattle.words.proofs.Frames.{word-0}
 use Rattle.machine.specs.Host.{statusAccessed, byteRead, hostRead}
 use Rattle.machine.proofs.Frames.{host-read-done, byte-handed}
-use Rattle.bench.specs.Cases.{Hold, cases, case1, case2, case3, case4, case5, case6, case7, case8, case9}
+use Rattle.accuracy.specs.Exact.{in32768ths, products, heldSum}
+use Rattle.accuracy.proofs.Demand3.{calls-mix}
+use Rattle.accuracy.proofs.Corollaries.{answered}
+use Rattle.accuracy.proofs.Examples.{examples}
+use Rattle.bench.specs.Cases.{Hold, cases, case1, case2, case3, case4, case5, case6, case7, case8, case9, case10, threeTimes}
 
 holds1 : case1 .says
 unfolding case1
@@ -72,6 +77,16 @@ holds9 = λ r program rom ram d c s e₁ e₂.
     let both = low-then-high r d c s in
     (byte-handed r program rom ram 0 e₁ ∙ both .0, byte-handed _ program rom ram 0 e₂ ∙ ap (λ x. byteRead (x .registers)) done ∙ both .1)
 
+-- the answer is the sum of the three M, held: both A and the distance are then numbers
+holds10 : case10 .says
+unfolding case10 signed leaves floorDiv floorMod held product mOf plus sumFlags summed wholeSum in32768ths products heldSum
+holds10 =
+    ((λ r calls clear zero unreset alone three.
+      let a = ap (λ x. x .value) (calls-mix r calls unreset alone) in
+      let n = answered r calls (threeTimes 0xffff 1) clear unreset alone three (omega arith) in
+      (a ∙ rw (three, zero), rw (n, three, zero), rw three)),
+    examples .0)
+
 pub bench : Hold cases
 unfolding cases
-bench = (holds1, (holds2, (holds3, (holds4, (holds5, (holds6, (holds7, (holds8, (holds9, tt)))))))))
+bench = (holds1, (holds2, (holds3, (holds4, (holds5, (holds6, (holds7, (holds8, (holds9, (holds10, tt))))))))))

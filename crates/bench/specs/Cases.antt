@@ -1,8 +1,10 @@
 -- The bench cases of 01, "Bench cases, marked to be proved", in one list. Where a case leaves a flag or an input open, it is said of every one.
-use Prim.Native.Nat.{ℕ}
+use Prim.Native.Nat.{ℕ, _*_}
 use mathlib.Core.Path.{_≡_}
 use mathlib.Core.Bool.{Bool, true, false}
 use mathlib.Core.List.{List, [], _∷_}
+use lib.IntN.{pos}
+use lib.ListN.{length, replicate}
 use Rattle.alu.specs.Operations.{operated}
 use Rattle.alu.specs.declared.Accumulator.{Accumulator}
 use Rattle.alu.specs.declared.Operation.the-variants.{Add, Shr1, Shl2, Shl4}
@@ -20,6 +22,11 @@ use Rattle.stages.specs.declared.codes.Source.the-variants.{Sil}
 use Rattle.words.specs.Outcomes.{finishedWord}
 use Rattle.words.specs.Word.{wordDone}
 use Rattle.machine.specs.Events.{eventDone}
+use Rattle.accuracy.specs.Exact.{Inputs}
+use Rattle.accuracy.specs.Deeds.{Call, after, deeds}
+use Rattle.accuracy.specs.Adding.{added}
+use Rattle.accuracy.specs.Demand3.{Clear, Unreset, Alone}
+use Rattle.accuracy.specs.Examples.{distance, Tight}
 
 -- a case: its number in 01, and what it says
 pub record Case : Type 1 where
@@ -38,6 +45,10 @@ clear value s1 s0 c z ov0 = record { value = value; flags = record { s1 = s1; s0
 -- an accumulator's value, C, OV1 and S1
 abbrev pub shows : Accumulator → ℕ → Bool → Bool → Bool → Type 0
 shows a value c ov1 s1 = (a .value ≡ value) × (a .flags .c ≡ c) × (a .flags .ov1 ≡ ov1) × (a .flags .s1 ≡ s1)
+
+-- K and L as three adding words find them
+abbrev pub threeTimes : ℕ → ℕ → List Inputs
+threeTimes k l = replicate 3 (record { k = k; l = l })
 
 -- "Of RAM and the registers listed in this paper, word 0 changes PC only."
 unfoldable pub case1 : Case
@@ -129,5 +140,17 @@ case9 =
           → (eventDone r program rom ram 1 0 .value ≡ 0x34) × (eventDone (eventDone r program rom ram 1 0 .registers) program rom ram 1 0 .value ≡ 0x12);
     }
 
+-- "OV1 0, A = 0, three adds with K = FFFFH, L = 1: A = FFFDH, and the distance is 98301, the full allowance.": on any machine, by any calls
+-- without a reset in which nothing else operates on A or loads it; and on one, by one run
+unfoldable pub case10 : Case
+case10 =
+    record {
+      number = 10;
+      says =
+          ((r : Registers) (calls : List Call) → Clear r → r .a ≡ 0 → Unreset r calls → Alone r calls → added (deeds r calls) ≡ threeTimes 0xffff 1
+          → (after r calls .a ≡ 0xfffd) × (distance r calls ≡ pos 98301) × (32767 * length (added (deeds r calls)) ≡ 98301))
+          × Tight;
+    }
+
 unfoldable pub cases : List Case
-cases = case1 ∷ case2 ∷ case3 ∷ case4 ∷ case5 ∷ case6 ∷ case7 ∷ case8 ∷ case9 ∷ []
+cases = case1 ∷ case2 ∷ case3 ∷ case4 ∷ case5 ∷ case6 ∷ case7 ∷ case8 ∷ case9 ∷ case10 ∷ []

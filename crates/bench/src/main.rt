@@ -11,6 +11,7 @@ use device::RomPointer;
 use device::Upd77p20;
 use machine::Answer;
 use paper::flag;
+use paper::number;
 use paper::register;
 use paper::text;
 use word::Word;
@@ -170,6 +171,40 @@ fn pointers() {
     register(7, b"RP 0 down: RP             ", 511, rp.0);
 }
 
+// A register's signed value in 32768ths, and the exact product of K and L, which M and half of N make up: both modulo 2^64.
+fn in_32768ths(register: u16) -> u64 {
+    let biased = std::num::wrapping_add_u16(register, 32768) as u64;
+    std::num::wrapping_sub_u64(biased * 32768, 1073741824)
+}
+
+fn exact_product(k: u16, l: u16) -> u64 {
+    let low = multiplier::n(k, l) / 2;
+    std::num::wrapping_add_u64(in_32768ths(multiplier::m(k, l)), low as u64)
+}
+
+// 10: three words that add M to A, and how far the exact sum is above A, in 32768ths.
+fn three_adds() {
+    let mut program = [0u32; Upd77p20::WORDS as usize];
+    program[0] = 0x128000;
+    program[1] = 0x128000;
+    program[2] = 0x128000;
+    let rom = [0u16; Upd77p20::CELLS as usize];
+    let mut ram = [0u16; Upd77p20::RAM as usize];
+    let mut r = Upd77p20::fresh_registers();
+    r.k = 0xffff;
+    r.l = 1;
+    let answer = machine::event(r, &program, &rom, &mut ram, 0, 3);
+    let q = answer.registers;
+    let f = q.flags;
+    let a = f.a;
+    register(10, b"FFFFH times 1, 3 adds: A  ", 0xfffd, q.a);
+    flag(10, b"FFFFH times 1, 3 adds: OV1", false, a.ov1);
+    let product = exact_product(0xffff, 1);
+    let sum = std::num::wrapping_add_u64(product, std::num::wrapping_add_u64(product, product));
+    let distance = std::num::wrapping_sub_u64(sum, in_32768ths(q.a));
+    number(10, b"the distance              ", 98301, distance);
+}
+
 fn main() {
     text(b"case  what                        expected  found\n");
     word_0();
@@ -186,4 +221,5 @@ fn main() {
         numbers::reverse16(1),
     );
     host_reads();
+    three_adds();
 }

@@ -34,7 +34,11 @@ fn print_flag(value: bool) {
 }
 
 fn heading(case: u64, name: &[u8]) {
-    text(b"  ");
+    if case < 10 {
+        text(b"  ");
+    } else {
+        text(b" ");
+    }
     io::print_decimal(STDOUT_FILENO, case);
     text(b"   ");
     text(name);
@@ -63,5 +67,13 @@ pub(crate) fn flag(case: u64, name: &[u8], expected: bool, found: bool) {
     print_flag(expected);
     text(b"     ");
     print_flag(found);
+    verdict(expected == found);
+}
+
+pub(crate) fn number(case: u64, name: &[u8], expected: u64, found: u64) {
+    heading(case, name);
+    io::print_decimal(STDOUT_FILENO, expected);
+    text(b"     ");
+    io::print_decimal(STDOUT_FILENO, found);
     verdict(expected == found);
 }
