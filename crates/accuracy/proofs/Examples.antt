@@ -47,14 +47,21 @@ unfolding
     deeds callDeeds wordsOf added after eventDone kindDone ran reset wordDone fetchedDone takenApart wordOf opWord opRefusal ldiWord ldiRefusal readFrom accumulated
     operandOf operated plus sumFlags loaded ramLoaded pointed ramPointerMoved freshRegisters registersFit mOf product signed floorDiv floorMod leaves held heldSum
     in32768ths products answerOf
-examples =
-    (
-      (refl, (tt, (tt, (tt, tt))), omega arith, (adds, (adds, (adds, tt))), (positive 1, (positive 1, (positive 1, tt))), refl, refl),
-      (refl, refl, refl, refl, refl),
-      (refl, (tt, (tt, (tt, (tt, (tt, (tt, tt)))))), refl, (adds, (adds, ((λ e. (refl, refl)), (adds, ((λ e. (refl, refl)), (adds, tt)))))), (other 32766 (λ z. absurd (omega arith)), (other 32766 (λ z. absurd (omega arith)), (other 2 (λ z. absurd (omega arith)), (positive 32767, tt)))), refl, refl, (λ h. h .near .le)),
-      (refl, (tt, tt), omega arith, (adds, tt), refl, (λ h. h .near .le)),
-      (refl, omega arith, (adds, (tt, tt)), (other 32766 (λ z. absurd (omega arith)), tt), (λ h. h .near .le)),
-      (refl, (tt, tt), omega arith, tt, (λ h. h .never-below .le)),
-      (refl, (tt, tt), omega arith, tt, (λ h. h .never-below .le)),
-      (tt, omega arith, tt, tt, (λ h. h .never-below .le)),
-    )
+examples = (
+  -- Tight
+  (refl, (tt, (tt, (tt, tt))), omega arith, (adds, (adds, (adds, tt))), (positive 1, (positive 1, (positive 1, tt))), refl, refl),
+  -- Sharp
+  (refl, refl, refl, refl, refl),
+  -- FourAdds
+  (refl, (tt, (tt, (tt, (tt, (tt, (tt, tt)))))), refl, (adds, (adds, ((λ e. (refl, refl)), (adds, ((λ e. (refl, refl)), (adds, tt)))))), (other 32766 (λ z. absurd (omega arith)), (other 32766 (λ z. absurd (omega arith)), (other 2 (λ z. absurd (omega arith)), (positive 32767, tt)))), refl, refl, (λ h. h .near .le)),
+  -- Squared
+  (refl, (tt, tt), omega arith, (adds, tt), refl, (λ h. h .near .le)),
+  -- ResetBetween
+  (refl, omega arith, (adds, (tt, tt)), (other 32766 (λ z. absurd (omega arith)), tt), (λ h. h .near .le)),
+  -- Loaded
+  (refl, (tt, tt), omega arith, tt, (λ h. h .never-below .le)),
+  -- WithCarry
+  (refl, (tt, tt), omega arith, tt, (λ h. h .never-below .le)),
+  -- Unclear
+  (tt, omega arith, tt, tt, (λ h. h .never-below .le)),
+)

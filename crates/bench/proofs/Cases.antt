@@ -80,12 +80,13 @@ holds9 = λ r program rom ram d c s e₁ e₂.
 -- the answer is the sum of the three M, held: both A and the distance are then numbers
 holds10 : case10 .says
 unfolding case10 signed leaves floorDiv floorMod held product mOf plus sumFlags summed wholeSum in32768ths products heldSum
-holds10 =
-    ((λ r calls clear zero unreset alone three.
+holds10 = (
+  (λ r calls clear zero unreset alone three.
       let a = ap (λ x. x .value) (calls-mix r calls unreset alone) in
       let n = answered r calls (threeTimes 0xffff 1) clear unreset alone three (omega arith) in
       (a ∙ rw (three, zero), rw (n, three, zero), rw three)),
-    examples .0)
+  examples .0,
+)
 
 pub bench : Hold cases
 unfolding cases
