@@ -48,6 +48,7 @@ pub struct Taken {
     pub word: Word,
 }
 
+#[repr(C)]
 pub struct Built {
     pub refusal: u8,
     pub bits: u32,

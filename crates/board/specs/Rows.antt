@@ -1,0 +1,44 @@
+-- A word as C holds it: its row by D22-21, OP 0, RT 1, JP 2, LDI 3, and a place for the fields of each row.
+use Prim.Native.Nat.{ℕ}
+use mathlib.Core.List.{List, [], _∷_}
+use lib.ListN.{getD}
+use Rattle.word.specs.Word.{takenApart, built}
+use Rattle.word.specs.declared.Word.{Word}
+use Rattle.word.specs.declared.Word.the-variants.{Op, Rt, Jp, Ldi}
+use Rattle.word.specs.declared.OpFields.{OpFields}
+use Rattle.word.specs.declared.JpFields.{JpFields}
+use Rattle.word.specs.declared.LdiFields.{LdiFields}
+use Rattle.word.specs.declared.Built.{Built}
+use Rattle.board.specs.declared.Rows.{Rows}
+use Rattle.board.specs.declared.TakenRows.{TakenRows}
+
+-- "the fields of its own row, and no others": those of the other rows are 0
+abbrev pub noOp : OpFields
+noOp = record { psel = 0; alu = 0; asl = 0; dpl = 0; dphm = 0; rpdcr = 0; src = 0; dst = 0 }
+
+abbrev pub noJp : JpFields
+noJp = record { brch = 0; cnd = 0; na = 0; spare = 0 }
+
+abbrev pub noLdi : LdiFields
+noLdi = record { id = 0; spare = 0; dst = 0 }
+
+abbrev pub rowsOf : Word → Rows
+rowsOf (Op f) = record { row = 0; op = f; jp = noJp; ldi = noLdi }
+rowsOf (Rt f) = record { row = 1; op = f; jp = noJp; ldi = noLdi }
+rowsOf (Jp f) = record { row = 2; op = noOp; jp = f; ldi = noLdi }
+rowsOf (Ldi f) = record { row = 3; op = noOp; jp = noJp; ldi = f }
+
+-- refusal 4 as the taker gives it
+unfoldable pub takenRows : ℕ → TakenRows
+takenRows w = record { refusal = takenApart w .refusal; rows = rowsOf (takenApart w .word) }
+
+-- what the builder makes of each row's fields
+abbrev pub builtByRow : Rows → List Built
+builtByRow x = built (Op (x .op)) ∷ built (Rt (x .op)) ∷ built (Jp (x .jp)) ∷ built (Ldi (x .ldi)) ∷ []
+
+-- refusal 11; a row above 3 is a field too wide for D22-21
+abbrev pub tooWide : Built
+tooWide = record { refusal = 11; bits = 0 }
+
+unfoldable pub builtRows : Rows → Built
+builtRows x = getD (builtByRow x) (x .row) tooWide

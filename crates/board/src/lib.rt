@@ -1,0 +1,209 @@
+// The desk's library: the machine in the caller's record, and words taken apart and built, under C names. include/bemulatsho.h is its header.
+ghost use mathlib.Core.Path.{_≡_};
+ghost use Rattle.device.specs.Registers.{freshRegisters};
+ghost use Rattle.machine.specs.Events.{eventDone};
+ghost use Rattle.board.specs.InPlace.{leaves};
+ghost use Rattle.board.specs.Rows.{noOp, noJp, noLdi, takenRows, builtRows};
+use device::Registers;
+use device::Upd77p20;
+use word::Built;
+use word::JpFields;
+use word::LdiFields;
+use word::OpFields;
+use word::Word;
+
+// ---- events
+
+#[repr(C)]
+pub struct Event {
+    pub kind: u32,
+    pub value: u32,
+}
+
+#[repr(C)]
+pub struct Reply {
+    pub number: u8,
+    pub words: u16,
+    pub value: u16,
+}
+
+#[repr(C)]
+pub struct Answered {
+    pub registers: Registers,
+    pub reply: Reply,
+}
+
+// One event by value, with the reply apart from the registers.
+fn by_value(
+    registers: Registers,
+    program: &[u32],
+    rom: &[u16],
+    ram: &mut [u16],
+    event: Event,
+) -> Answered
+    ensures { λ x. ⌜ leaves (x .reply) (x .registers) (now (ram .exit)) ≡ eventDone registers (now (program .entry)) (now (rom .entry)) (now (ram .entry)) (event .kind) (event .value) ⌝ }
+{
+    let answer = machine::event(registers, program, rom, ram, event.kind, event.value);
+    let after = answer.registers;
+    Answered {
+        registers: after,
+        reply: Reply {
+            number: answer.number,
+            words: answer.words,
+            value: answer.value,
+        },
+    }
+}
+
+// The same in the caller's record.
+#[no_mangle]
+pub extern "C" fn bemulatsho_event_in_place(
+    registers: &mut Registers,
+    program: &[u32],
+    rom: &[u16],
+    ram: &mut [u16],
+    event: Event,
+) -> Reply
+    ensures { λ x. ⌜ leaves x (now (registers .exit)) (now (ram .exit)) ≡ eventDone (now (registers .entry)) (now (program .entry)) (now (rom .entry)) (now (ram .entry)) (event .kind) (event .value) ⌝ }
+{
+    let before = *registers;
+    let a = by_value(before, program, rom, ram, event);
+    let after = a.registers;
+    *registers = after;
+    a.reply
+}
+
+#[no_mangle]
+pub extern "C" fn bemulatsho_fresh_registers() -> Registers
+    ensures { λ r. ⌜ r ≡ freshRegisters ⌝ }
+{
+    Upd77p20::fresh_registers()
+}
+
+// The version of this interface: it goes up when a caller has to change.
+#[no_mangle]
+pub extern "C" fn bemulatsho_version() -> u32
+    ensures { λ r. ⌜ r ≡ 1 ⌝ }
+{
+    1
+}
+
+// ---- words
+
+// A word's row, and the fields of every row: those of the others are 0 when a word is taken apart, and not looked at when it is built.
+#[repr(C)]
+pub struct Rows {
+    pub row: u8,
+    pub op: OpFields,
+    pub jp: JpFields,
+    pub ldi: LdiFields,
+}
+
+#[repr(C)]
+pub struct TakenRows {
+    pub refusal: u8,
+    pub rows: Rows,
+}
+
+fn no_op() -> OpFields
+    ensures { λ r. ⌜ r ≡ noOp ⌝ }
+{
+    OpFields {
+        psel: 0,
+        alu: 0,
+        asl: 0,
+        dpl: 0,
+        dphm: 0,
+        rpdcr: 0,
+        src: 0,
+        dst: 0,
+    }
+}
+
+fn no_jp() -> JpFields
+    ensures { λ r. ⌜ r ≡ noJp ⌝ }
+{
+    JpFields {
+        brch: 0,
+        cnd: 0,
+        na: 0,
+        spare: 0,
+    }
+}
+
+fn no_ldi() -> LdiFields
+    ensures { λ r. ⌜ r ≡ noLdi ⌝ }
+{
+    LdiFields {
+        id: 0,
+        spare: 0,
+        dst: 0,
+    }
+}
+
+#[no_mangle]
+pub extern "C" fn bemulatsho_take_apart(word: u32) -> TakenRows
+    ensures { λ r. ⌜ r ≡ takenRows word ⌝ }
+{
+    let taken = word::take_apart(word);
+    let refusal = taken.refusal;
+    let row = taken.word;
+    match row {
+        Word::Op(f) => TakenRows {
+            refusal,
+            rows: Rows {
+                row: 0,
+                op: f,
+                jp: no_jp(),
+                ldi: no_ldi(),
+            },
+        },
+        Word::Rt(f) => TakenRows {
+            refusal,
+            rows: Rows {
+                row: 1,
+                op: f,
+                jp: no_jp(),
+                ldi: no_ldi(),
+            },
+        },
+        Word::Jp(f) => TakenRows {
+            refusal,
+            rows: Rows {
+                row: 2,
+                op: no_op(),
+                jp: f,
+                ldi: no_ldi(),
+            },
+        },
+        Word::Ldi(f) => TakenRows {
+            refusal,
+            rows: Rows {
+                row: 3,
+                op: no_op(),
+                jp: no_jp(),
+                ldi: f,
+            },
+        },
+    }
+}
+
+#[no_mangle]
+pub extern "C" fn bemulatsho_build(rows: Rows) -> Built
+    ensures { λ r. ⌜ r ≡ builtRows rows ⌝ }
+{
+    let row = rows.row;
+    let op = rows.op;
+    let jp = rows.jp;
+    let ldi = rows.ldi;
+    match row {
+        0 => word::build(Word::Op(op)),
+        1 => word::build(Word::Rt(op)),
+        2 => word::build(Word::Jp(jp)),
+        3 => word::build(Word::Ldi(ldi)),
+        _ => Built {
+            refusal: 11,
+            bits: 0,
+        },
+    }
+}
