@@ -1,0 +1,101 @@
+//! One word.
+
+use crate::accumulators;
+use crate::alu;
+use crate::bus;
+use crate::conditions;
+use crate::destination;
+use crate::operand;
+use crate::pointers::{dp_moved, next_pc, rp_down};
+use crate::refusal;
+use crate::registers::Registers;
+use crate::stack;
+use crate::word::{jp_fields, kind, ldi_fields, op_fields, JpFields, Kind, LdiFields, OpFields};
+
+pub const JUMP_ON_CONDITION: u8 = 0b010;
+pub const JUMP: u8 = 0b100;
+pub const CALL: u8 = 0b101;
+
+/// The word at PC, carried out whole; or `Err` with its refusal number, and nothing has changed.
+///
+/// Expects lengths and registers that passed refusals 1 and 2, and leaves registers that pass them again.
+#[inline]
+pub fn step(registers: &mut Registers, program: &[u32], rom: &[u16], ram: &mut [u16]) -> Result<(), u8> {
+    let word = program[usize::from(registers.pc)];
+    match kind(word)? {
+        Kind::Op => op(registers, rom, ram, &op_fields(word)),
+        Kind::Rt => rt(registers, rom, ram, &op_fields(word)),
+        Kind::Jp => jp(registers, &jp_fields(word)),
+        Kind::Ldi => ldi(registers, rom, ram, &ldi_fields(word)),
+    }
+}
+
+fn op(registers: &mut Registers, rom: &[u16], ram: &mut [u16], fields: &OpFields) -> Result<(), u8> {
+    refusal::of_op(fields, registers, rom)?;
+    operate_and_move(registers, rom, ram, fields);
+    registers.pc = next_pc(registers.pc);
+    Ok(())
+}
+
+fn rt(registers: &mut Registers, rom: &[u16], ram: &mut [u16], fields: &OpFields) -> Result<(), u8> {
+    refusal::of_rt(fields, registers, rom)?;
+    operate_and_move(registers, rom, ram, fields);
+    registers.pc = stack::pop(registers);
+    Ok(())
+}
+
+fn jp(registers: &mut Registers, fields: &JpFields) -> Result<(), u8> {
+    refusal::of_jp(fields, registers)?;
+    let next = next_pc(registers.pc);
+    registers.pc = match fields.brch {
+        JUMP => fields.na,
+        CALL => {
+            stack::push(registers, next);
+            fields.na
+        }
+        _ if conditions::holds(registers, fields.cnd) => fields.na,
+        _ => next,
+    };
+    Ok(())
+}
+
+fn ldi(registers: &mut Registers, rom: &[u16], ram: &mut [u16], fields: &LdiFields) -> Result<(), u8> {
+    refusal::of_ldi(fields, registers, rom)?;
+    destination::store(registers, rom, ram, fields.dst, fields.id);
+    registers.pc = next_pc(registers.pc);
+    Ok(())
+}
+
+/// All of an OP or RT word but PC. Everything is read before anything is written.
+#[inline]
+fn operate_and_move(registers: &mut Registers, rom: &[u16], ram: &mut [u16], fields: &OpFields) {
+    let bus = bus::value(registers, rom, ram, fields.src);
+    operate(registers, ram, bus, fields);
+    // The reading comes before the storing: SR as destination keeps the RQM that DR as source has set.
+    bus::after_reading(registers, fields.src);
+    destination::store(registers, rom, ram, fields.dst, bus);
+    move_pointers(registers, fields);
+}
+
+/// The ALU result and its flags. The ALU does nothing if its accumulator is also the destination.
+fn operate(registers: &mut Registers, ram: &[u16], bus: u16, fields: &OpFields) {
+    let OpFields { psel, alu, asl, dst, .. } = *fields;
+    if alu == 0 || accumulators::is_destination(asl, dst) {
+        return;
+    }
+    let accumulator = accumulators::chosen(registers, asl);
+    let operand = operand::value(registers, ram, bus, psel);
+    let other_c = accumulators::other_c(registers, asl);
+    let result = alu::operate(alu, accumulator, operand, other_c);
+    accumulators::store(registers, asl, result);
+}
+
+/// DP and RP move unless the word has just loaded them.
+fn move_pointers(registers: &mut Registers, fields: &OpFields) {
+    if fields.dst != destination::DP {
+        registers.dp = dp_moved(registers.dp, fields.dpl, fields.dphm);
+    }
+    if fields.dst != destination::RP && fields.rpdcr == 1 {
+        registers.rp = rp_down(registers.rp);
+    }
+}

@@ -1,0 +1,130 @@
+//! Any lengths, registers, words, cells, kinds and values: a reply comes, and it is one that the paper knows.
+
+use crate::random::Random;
+use emulator::{event, Registers, Reply};
+
+const CALLS: usize = 400_000;
+
+/// Room for images that are too long.
+const ROOM: usize = 520;
+
+/// Mostly the right length, now and then any.
+fn length(random: &mut Random, right: usize) -> usize {
+    match random.below(40) {
+        0 => random.below(ROOM as u32 + 1) as usize,
+        1 => right + 1,
+        2 => right - 1,
+        _ => right,
+    }
+}
+
+/// Registers that fit, now and then with one that may not.
+fn registers(random: &mut Random) -> Registers {
+    let mut r = random.registers();
+    if random.below(4) == 0 {
+        match random.below(6) {
+            0 => r.pc = random.register(),
+            1 => r.stack[random.below(4) as usize] = random.register(),
+            2 => r.depth = random.register() as u8,
+            3 => r.dp = random.register(),
+            4 => r.rp = random.register(),
+            _ => r.sr = random.register(),
+        }
+    }
+    r
+}
+
+fn kind(random: &mut Random) -> u32 {
+    match random.below(20) {
+        0 => random.next(),
+        1..=8 => 0,
+        _ => random.below(9),
+    }
+}
+
+fn value(random: &mut Random) -> u32 {
+    match random.below(200) {
+        0..=9 => random.next(),
+        10 => random.below(65536),
+        11..=30 => random.below(300),
+        31..=120 => 0,
+        _ => random.below(12),
+    }
+}
+
+/// Refusal 2, by the numbers of the paper.
+fn fits(r: &Registers) -> bool {
+    let narrow = r.pc <= 511 && r.stack.iter().all(|&cell| cell <= 511) && r.dp <= 127 && r.rp <= 511;
+    narrow && r.depth <= 4 && r.sr & 0b0111_1100 == 0
+}
+
+fn allowed(kind: u32, value: u32) -> bool {
+    match kind {
+        0 | 4 => value <= 65535,
+        2 => value <= 255,
+        1 | 3 | 5 | 6 | 7 => value == 0,
+        _ => false,
+    }
+}
+
+#[test]
+fn every_call_is_answered() {
+    let mut random = Random::from_seed(77);
+    let mut program = [0_u32; ROOM];
+    let mut rom = [0_u16; ROOM];
+    let mut ram = [0_u16; ROOM];
+    let mut seen = [false; 11];
+    for call in 0..CALLS {
+        if call % 500 == 0 {
+            let wide = random.flag();
+            program.fill_with(|| random.next() >> if wide { 8 } else { 9 });
+            rom.fill_with(|| random.register() >> if wide { 2 } else { 3 });
+            ram.fill_with(|| random.register());
+        }
+        program[random.below(ROOM as u32) as usize] = random.next();
+        rom[random.below(ROOM as u32) as usize] = random.register();
+
+        let (words, cells, ram_cells) = (length(&mut random, 512), length(&mut random, 512), length(&mut random, 128));
+        let before = registers(&mut random);
+        let ram_before = ram;
+        let (kind, value) = (kind(&mut random), value(&mut random));
+        let mut after = before;
+        let reply = event(&mut after, &program[..words], &rom[..cells], &mut ram[..ram_cells], kind, value);
+        seen[usize::from(reply.number)] = true;
+
+        let of_the_whole_call = match () {
+            _ if (words, cells, ram_cells) != (512, 512, 128) => 1,
+            _ if !fits(&before) => 2,
+            _ if !allowed(kind, value) => 3,
+            _ => 0,
+        };
+        if of_the_whole_call != 0 {
+            assert_eq!(reply, Reply { number: of_the_whole_call, words: 0, value: 0 });
+            assert_eq!(after, before);
+            assert_eq!(ram, ram_before);
+            continue;
+        }
+        assert!(fits(&after));
+        match kind {
+            0 => assert!(matches!(reply.number, 0 | 4..=9)),
+            5 => assert!(matches!(reply.number, 0 | 10)),
+            6 => assert!(matches!(reply.number, 0 | 9)),
+            _ => assert_eq!(reply.number, 0),
+        }
+        match (kind, reply.number) {
+            (0, 0) => assert_eq!(u32::from(reply.words), value),
+            (0, _) => assert!(u32::from(reply.words) < value),
+            _ => assert_eq!(reply.words, 0),
+        }
+        if reply.number != 0 || !matches!(kind, 1 | 3 | 5) {
+            assert_eq!(reply.value, 0);
+        }
+        if reply.number != 0 && reply.words == 0 {
+            assert_eq!(after, before);
+        }
+        if kind != 0 || (reply.number != 0 && reply.words == 0) {
+            assert_eq!(ram, ram_before);
+        }
+    }
+    assert_eq!(seen, [true; 11]);
+}

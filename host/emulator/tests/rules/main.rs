@@ -1,0 +1,25 @@
+//! What the rules paper says, with every expected value worked out by hand.
+
+mod accumulators;
+mod alu;
+mod assemble;
+mod bench_cases;
+mod conditions;
+mod damaged_input;
+mod destinations;
+mod host_events;
+mod jumps_and_stack;
+mod machine;
+mod operands;
+mod order_of_refusals;
+mod other_events;
+mod pointers;
+mod random;
+mod read_before_written;
+mod refusals_of_events;
+mod refusals_of_words;
+mod runs;
+mod sources;
+mod status_register;
+mod three_adds;
+mod words_and_fields;

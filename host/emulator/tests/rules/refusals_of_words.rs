@@ -1,0 +1,148 @@
+//! Refusals 4 to 9 of a word, and 4 and 11 of taking apart and building.
+
+use crate::assemble::{dst, jp, ldi, mov, op, psel, rt, src, Op, CALL};
+use crate::machine::{recognisable, Machine, NEXT};
+use emulator::{build, take_apart, JpFields, LdiFields, OpFields, Word};
+
+#[test]
+fn refusal_4_a_word_of_2_to_the_23() {
+    for word in [1 << 23, 1 << 24, 1 << 31, u32::MAX] {
+        recognisable().word_is_refused(word, 4);
+        assert_eq!(take_apart(word), Err(4));
+    }
+    // The last word below is an LDI to MEM.
+    recognisable().word_changes((1 << 23) - 1, |m| {
+        m.registers.pc = NEXT;
+        m.ram[0x25] = 0xffff;
+    });
+}
+
+#[test]
+fn refusal_5_no_such_branch() {
+    for brch in [0b000, 0b001, 0b011, 0b110, 0b111] {
+        for cnd in 0..32 {
+            recognisable().word_is_refused(jp(brch, cnd, 0x55), 5);
+        }
+    }
+}
+
+/// SRC none, and a destination that wants the bus.
+#[test]
+fn refusal_6_a_destination_without_source() {
+    for number in 0..16 {
+        let fields = Op { src: src::NONE, dst: number, ..Op::default() };
+        if number == dst::NONE || number == dst::ALSO_NONE {
+            recognisable().word_changes(op(fields), |m| m.registers.pc = NEXT);
+        } else {
+            recognisable().word_is_refused(op(fields), 6);
+            recognisable().word_is_refused(rt(fields), 6);
+        }
+    }
+}
+
+/// SRC none, and an operation of 1 to 7 on the bus.
+#[test]
+fn refusal_6_an_operation_on_the_bus_without_source() {
+    for code in 0..16 {
+        for select in 0..4 {
+            for asl in [0, 1] {
+                for number in [dst::NONE, dst::ALSO_NONE] {
+                    let fields = Op { psel: select, alu: code, asl, src: src::NONE, dst: number, ..Op::default() };
+                    if (1..=7).contains(&code) && select == psel::BUS {
+                        recognisable().word_is_refused(op(fields), 6);
+                        recognisable().word_is_refused(rt(fields), 6);
+                    } else {
+                        assert_eq!(recognisable().run_word(op(fields)).number, 0);
+                        assert_eq!(recognisable().run_word(rt(fields)).number, 0);
+                    }
+                }
+            }
+        }
+    }
+}
+
+fn with_cell(value: u16) -> Machine {
+    let mut machine = recognisable();
+    machine.rom[0x1a7] = value;
+    machine
+}
+
+#[test]
+fn refusal_7_a_data_rom_cell_of_8192() {
+    for cell in [8192, 65535] {
+        for number in 0..16 {
+            with_cell(cell).word_is_refused(mov(number, src::RO), 7);
+        }
+        with_cell(cell).word_is_refused(mov(dst::KLR, src::TR), 7);
+        with_cell(cell).word_is_refused(rt(Op { src: src::RO, ..Op::default() }), 7);
+        with_cell(cell).word_is_refused(ldi(0x1234, dst::KLR), 7);
+    }
+}
+
+/// Who doesn't use the cell isn't refused, nor is a wide cell elsewhere looked at.
+#[test]
+fn a_wide_cell_that_is_not_used() {
+    for source in (1..16).filter(|&source| source != src::RO) {
+        assert_eq!(with_cell(65535).run_word(mov(dst::NONE, source)).number, 0);
+    }
+    for number in (0..16).filter(|&number| number != dst::KLR) {
+        assert_eq!(with_cell(65535).run_word(mov(number, src::TR)).number, 0);
+        assert_eq!(with_cell(65535).run_word(ldi(0x1234, number)).number, 0);
+    }
+    let mut machine = recognisable();
+    machine.rom.fill(65535);
+    machine.rom[0x1a7] = 8191;
+    assert_eq!(machine.run_word(mov(dst::KLR, src::RO)).number, 0);
+    assert_eq!((machine.registers.k, machine.registers.l), (0xfff8, 0xfff8));
+}
+
+#[test]
+fn refusal_8_a_return_at_depth_0() {
+    let mut machine = recognisable();
+    machine.registers.depth = 0;
+    machine.clone().word_is_refused(rt(Op::default()), 8);
+    machine.word_is_refused(rt(Op { alu: 9, dpl: 1, rpdcr: 1, src: src::DR, dst: dst::MEM, ..Op::default() }), 8);
+}
+
+#[test]
+fn refusal_9_a_call_at_depth_4() {
+    let mut machine = recognisable();
+    machine.registers.depth = 4;
+    machine.word_is_refused(jp(CALL, 0, 0x55), 9);
+}
+
+/// Each field one too wide for its place.
+#[test]
+fn refusal_11_a_field_too_wide() {
+    let op = OpFields::default();
+    let op_words = [
+        OpFields { psel: 4, ..op },
+        OpFields { alu: 16, ..op },
+        OpFields { asl: 2, ..op },
+        OpFields { dpl: 4, ..op },
+        OpFields { dphm: 8, ..op },
+        OpFields { rpdcr: 2, ..op },
+        OpFields { src: 16, ..op },
+        OpFields { dst: 16, ..op },
+        OpFields { dst: 255, ..op },
+    ];
+    for fields in op_words {
+        assert_eq!(build(&Word::Op(fields)), Err(11));
+        assert_eq!(build(&Word::Rt(fields)), Err(11));
+    }
+    let jp = JpFields::default();
+    let jp_words = [
+        JpFields { brch: 8, ..jp },
+        JpFields { cnd: 32, ..jp },
+        JpFields { na: 512, ..jp },
+        JpFields { na: 65535, ..jp },
+        JpFields { spare: 16, ..jp },
+    ];
+    for fields in jp_words {
+        assert_eq!(build(&Word::Jp(fields)), Err(11));
+    }
+    let ldi = LdiFields::default();
+    for fields in [LdiFields { spare: 2, ..ldi }, LdiFields { dst: 16, ..ldi }] {
+        assert_eq!(build(&Word::Ldi(fields)), Err(11));
+    }
+}
