@@ -1,0 +1,447 @@
+/*
+ * bemulatsho.h: a software copy of NEC's uPD7720A / uPD77P20 signal processor.
+ *
+ * Link with libbemulatsho.a: x86-64, System V calling convention, C11 or C++17.
+ *
+ * The caller owns the machine: a record of registers, a RAM, a program and a data ROM.
+ * Each call lends them to the library for one event: so many words to run, a byte that
+ * the host reads or writes, a serial word, an interrupt, a reset.
+ *
+ *     static uint32_t program[BEMULATSHO_WORDS];       read from the program EPROM
+ *     static uint16_t rom[BEMULATSHO_CELLS];           read from the data ROM
+ *     static uint16_t ram[BEMULATSHO_RAM];
+ *     struct bemulatsho_registers registers = bemulatsho_fresh_registers();
+ *
+ *     struct bemulatsho_event event = {BEMULATSHO_EVENT_SERIAL_IN, sample};
+ *     struct bemulatsho_reply reply =
+ *         bemulatsho_event_in_place(&registers, program, BEMULATSHO_WORDS, rom,
+ *                                   BEMULATSHO_CELLS, ram, BEMULATSHO_RAM, event);
+ *     if (reply.number != BEMULATSHO_DONE) {
+ *         ...
+ *     }
+ *
+ * Every call is answered; what cannot be done is refused by a number. "Refusal 2" is the
+ * number 2 of enum bemulatsho_number. Numbers that end in H are hexadecimal. Bits count
+ * from 0, the lowest. A mark or flag is 1 when its bool is true.
+ */
+#ifndef BEMULATSHO_H
+#define BEMULATSHO_H
+
+#include <stdbool.h>
+#include <stddef.h>
+#include <stdint.h>
+
+#ifdef __cplusplus
+extern "C" {
+#endif
+
+/* ---- version */
+
+/* The version that this header describes. It goes up when a caller has to change. */
+#define BEMULATSHO_VERSION 1
+
+/* The version of the library. Compare it with BEMULATSHO_VERSION once, at the start. */
+uint32_t bemulatsho_version(void);
+
+/* ---- sizes of the chip */
+
+#define BEMULATSHO_WORDS 512           /* instruction words of a program */
+#define BEMULATSHO_WORD_LIMIT 0x800000 /* a word has 23 bits: it is below this, 2^23 */
+#define BEMULATSHO_CELLS 512           /* data ROM cells; a masked part offers 510 */
+#define BEMULATSHO_CELL_LIMIT 8192     /* a cell has 13 bits: it is below this, 2^13 */
+#define BEMULATSHO_CELL_UNIT 8         /* a cell goes on the bus times this */
+#define BEMULATSHO_RAM 128             /* RAM cells, of 16 bits each */
+#define BEMULATSHO_STACK 4             /* stack cells */
+
+/*
+ * A program is an array of uint32_t, word n at place n, the word in the low 23 bits. A
+ * data ROM is an array of uint16_t, the cell in the low 13 bits. A larger number may
+ * stand in either; it is refused when it is used (refusals 4 and 7), and not before.
+ */
+
+/* ---- registers */
+
+/*
+ * The flags of one accumulator, a bit each. A sum is one of SUB, ADD, SBB, ADC, DEC, INC.
+ * ALU operation 0, and one whose accumulator is also the destination, leaves all six.
+ */
+struct bemulatsho_flags {
+    bool s1;  /* S1: S0 after a sum, but as it was if OV1 was 1; S0 after the others */
+    bool s0;  /* S0: the result's top bit */
+    bool c;   /* C: carry or borrow of a sum; bit shifted out by SHR1, SHL1; else 0 */
+    bool z;   /* Z: the result is 0 */
+    bool ov1; /* OV1: OV0 after a sum, but 1 if it was 1, unless OV0 is 1 and S0 differs
+                 from S1; 0 after the others. 1: a chain of sums is out of range */
+    bool ov0; /* OV0: the sum left -32768 to 32767; 0 after the others */
+};
+
+struct bemulatsho_both_flags {
+    struct bemulatsho_flags a; /* the flags of A */
+    struct bemulatsho_flags b; /* the flags of B */
+};
+
+/*
+ * The machine record. The caller may read and set every field between calls; a record
+ * that the chip could not hold is refused at the next call, as said at each field. PC and
+ * the stack cells count words, DP points at RAM, RP at data ROM. The record has no
+ * padding: two may be compared by memcmp.
+ */
+struct bemulatsho_registers {
+    uint16_t pc;     /* PC, 9 bits: the word to run next. 512 or more: refusal 2 */
+    uint16_t stack0; /* stack cell 0, 9 bits: where to return. 512 or more: refusal 2 */
+    uint16_t stack1; /* stack cell 1, 9 bits. 512 or more: refusal 2 */
+    uint16_t stack2; /* stack cell 2, 9 bits. 512 or more: refusal 2 */
+    uint16_t stack3; /* stack cell 3, 9 bits. 512 or more: refusal 2 */
+    struct bemulatsho_both_flags flags; /* S1 S0 C Z OV1 OV0 for A and again for B */
+    uint16_t si;     /* SI, 16 bits: the last serial word in */
+    bool siack;      /* SIACK, 1 bit: a serial word is in and SIM, SIL have not read it */
+    uint8_t depth;   /* stack depth, 0 to 4. A push writes the cell of this number and
+                        raises it; a pop lowers it, takes the cell so numbered and leaves
+                        it as it is. 5 or more: refusal 2 */
+    uint16_t a;      /* A, 16 bits: accumulator */
+    uint16_t b;      /* B, 16 bits: accumulator */
+    uint16_t k;      /* K, 16 bits: multiplier input, signed */
+    uint16_t l;      /* L, 16 bits: multiplier input, signed */
+    uint16_t tr;     /* TR, 16 bits: temporary register */
+    uint16_t dr;     /* DR, 16 bits: data register, between program and host */
+    uint16_t so;     /* SO, 16 bits: the serial word out */
+    uint16_t dp;     /* DP, 7 bits: a RAM cell. 128 or more: refusal 2 */
+    uint16_t rp;     /* RP, 9 bits: a data ROM cell. 512 or more: refusal 2 */
+    uint16_t sr;     /* SR, 16 bits: status. Bits 6 to 2 not 0: refusal 2 */
+    bool soack;      /* SOACK, 1 bit: the serial word out was taken (the manual has the
+                        opposite sense); cleared when a word stores SO */
+    bool sorq;       /* SORQ, 1 bit: SO was stored and has not been taken */
+};
+
+/* The bits of SR. The host sees 15 to 8; a word that stores SR leaves 15, 12, 6 to 2. */
+#define BEMULATSHO_SR_RQM 0x8000u    /* 15: a word read or stored DR, the host's turn */
+#define BEMULATSHO_SR_USF1 0x4000u   /* 14: user flag, from program to host */
+#define BEMULATSHO_SR_USF0 0x2000u   /* 13: user flag, from program to host */
+#define BEMULATSHO_SR_DRS 0x1000u    /* 12: DR's low byte has gone, the high is next */
+#define BEMULATSHO_SR_DMA 0x0800u    /* 11: stored, not acted on */
+#define BEMULATSHO_SR_DRC 0x0400u    /* 10: the host moves DR's low byte only */
+#define BEMULATSHO_SR_SOC 0x0200u    /* 9: stored, not acted on */
+#define BEMULATSHO_SR_SIC 0x0100u    /* 8: stored, not acted on */
+#define BEMULATSHO_SR_EI 0x0080u     /* 7: interrupts are taken */
+#define BEMULATSHO_SR_P1 0x0002u     /* 1: output pin P1 */
+#define BEMULATSHO_SR_P0 0x0001u     /* 0: output pin P0 */
+#define BEMULATSHO_SR_UNUSED 0x007Cu /* 6 to 2: always 0. Not 0: refusal 2 */
+
+/* A machine that has run nothing: every register, flag and mark 0. */
+struct bemulatsho_registers bemulatsho_fresh_registers(void);
+
+/* ---- events */
+
+/* The kinds of an event. Any other kind, or a value not allowed here: refusal 3. */
+enum bemulatsho_kind {
+    /* value 0 to 65535: run value words from PC on, or those before the first that is
+       refused. The reply's words says how many were finished. */
+    BEMULATSHO_EVENT_RUN = 0,
+    /* value 0: host reads data. The reply's value is a byte of DR. With DRC 0 the low
+       byte goes first (DRS 0) and sets DRS; the high byte (DRS 1) clears DRS and RQM.
+       With DRC 1 the low byte only, and RQM cleared, while DRS stays. */
+    BEMULATSHO_EVENT_HOST_READ = 1,
+    /* value 0 to 255: host writes value into a byte of DR: which one, and what becomes of
+       DRS and RQM, as when it reads. The other byte of DR stays. */
+    BEMULATSHO_EVENT_HOST_WRITE = 2,
+    /* value 0: host reads status: the high byte of SR is the reply's value. */
+    BEMULATSHO_EVENT_HOST_STATUS = 3,
+    /* value 0 to 65535: serial word in: SI takes the value, SIACK set. A word that was
+       not read is lost. */
+    BEMULATSHO_EVENT_SERIAL_IN = 4,
+    /* value 0: serial word out: hands SO, clears SORQ, sets SOACK. SO is the reply's
+       value. SORQ 0: refusal 10. */
+    BEMULATSHO_EVENT_SERIAL_OUT = 5,
+    /* value 0: interrupt edge: if EI is 1, push PC, go to 100H, clear EI; if 0, nothing.
+       It counts no words. EI 1 at depth 4: refusal 9. */
+    BEMULATSHO_EVENT_INTERRUPT = 6,
+    /* value 0: reset: PC, depth, flags, SR, SORQ, SIACK, SOACK to 0. The other registers,
+       the stack cells and RAM stay. */
+    BEMULATSHO_EVENT_RESET = 7
+};
+
+struct bemulatsho_event {
+    uint32_t kind;  /* enum bemulatsho_kind */
+    uint32_t value; /* what the kind allows */
+};
+
+/* ---- replies */
+
+/*
+ * The number of a reply: 0, or the refusal. Each is given exactly when its line says;
+ * where several apply, the lowest. An event call gives 0 to 10, bemulatsho_take_apart 0
+ * or 4, bemulatsho_build 0 or 11.
+ */
+enum bemulatsho_number {
+    /* done */
+    BEMULATSHO_DONE = 0,
+    /* a lent image or RAM is not 512, 512, 128 long. In the order of the call: program,
+       data ROM, RAM. */
+    BEMULATSHO_REFUSED_LENGTH = 1,
+    /* PC, a stack cell, DP or RP too wide, depth over 4, or SR bits 6 to 2 not 0. All
+       four stack cells count, at any depth. Every kind is refused, also a reset. */
+    BEMULATSHO_REFUSED_REGISTERS = 2,
+    /* event kind over 7, or value not allowed */
+    BEMULATSHO_REFUSED_EVENT = 3,
+    /* fetched word 2^23 or more (also when one is taken apart) */
+    BEMULATSHO_REFUSED_WORD = 4,
+    /* BRCH none of 010, 100, 101 */
+    BEMULATSHO_REFUSED_BRANCH = 5,
+    /* SRC none in an OP or RT word, and either DST is not 0 or 14, or the ALU operation
+       is 1 to 7 with P-select bus */
+    BEMULATSHO_REFUSED_SOURCE = 6,
+    /* SRC is RO, or DST is KLR (LDI too), and the data ROM cell at RP is 8192 or more */
+    BEMULATSHO_REFUSED_CELL = 7,
+    /* RT at depth 0 */
+    BEMULATSHO_REFUSED_RETURN = 8,
+    /* call, or interrupt taken, at depth 4 */
+    BEMULATSHO_REFUSED_PUSH = 9,
+    /* serial out with SORQ 0 */
+    BEMULATSHO_REFUSED_SERIAL = 10,
+    /* a field too wide for the builder. A row over 3 is one. */
+    BEMULATSHO_REFUSED_FIELD = 11
+};
+
+struct bemulatsho_reply {
+    uint8_t number; /* enum bemulatsho_number */
+    uint16_t words; /* words finished by a run, also by one that is refused; else 0 */
+    uint16_t value; /* what kinds 1, 3 and 5 hand; 0 for the others and when refused */
+};
+
+/* ---- the call */
+
+/*
+ * One event. Changes the record and the RAM in place; reads the program and the data ROM.
+ *
+ * When refused, the value is 0, and registers and RAM are as before the refused word or
+ * event. Words that a run finished before the refused one stay done and are counted in
+ * words; PC is at the refused word, and a second run would be refused there again.
+ *
+ * A length counts elements, not bytes. As many elements as it says must be there; the
+ * call touches none beyond. A length that is not the chip's is refusal 1.
+ *
+ * Everything is lent until the call returns. The library keeps no pointer and no state
+ * between calls and allocates nothing. The caller sees to the following, which the call
+ * cannot check:
+ * - No pointer is null, not even with length 0, and each is aligned for its type.
+ * - The record and the RAM can be written, even if the call is refused.
+ * - Each bool of the record is 0 or 1. Mind records that were read from a file.
+ * - The record and the RAM overlap neither each other nor the program nor the data ROM.
+ * - While the call runs, nobody else touches record or RAM, or writes to the images.
+ *
+ * Calls on different records with different RAMs may run at the same time. They may share
+ * a program and a data ROM.
+ */
+struct bemulatsho_reply bemulatsho_event_in_place(
+    struct bemulatsho_registers *registers,
+    const uint32_t *program, size_t program_length, /* BEMULATSHO_WORDS */
+    const uint16_t *rom, size_t rom_length,         /* BEMULATSHO_CELLS */
+    uint16_t *ram, size_t ram_length,               /* BEMULATSHO_RAM */
+    struct bemulatsho_event event);
+
+/* ---- words */
+
+/* The rows of a word, by its bits D22-21; D22 is the top bit. */
+enum bemulatsho_row {
+    /* 00: a move, an operation and steps of the pointers; PC goes up by one, 511 to 0 */
+    BEMULATSHO_ROW_OP = 0,
+    /* 01: as OP, but PC is popped */
+    BEMULATSHO_ROW_RT = 1,
+    /* 10: a jump or a call; PC goes up by one if the jump is not taken */
+    BEMULATSHO_ROW_JP = 2,
+    /* 11: a constant; PC goes up by one */
+    BEMULATSHO_ROW_LDI = 3
+};
+
+/*
+ * The fields of an OP or RT word. Everything is read from the state before the word; then
+ * come the ALU result and its flags, the destination, the pointers, PC.
+ *
+ * ALU 0 to 15: none, OR, AND, XOR, SUB, ADD, SBB, ADC, DEC, INC, CMP, SHR1, SHL1, SHL2,
+ * SHL4, XCHG. It does nothing if its accumulator is also the destination. SBB, ADC and
+ * SHL1 take in the other accumulator's C. CMP is the ones' complement, SHR1 keeps the
+ * sign, SHL2 and SHL4 bring in ones, XCHG changes the bytes round.
+ *
+ * SRC 0 to 15: none, A, B, TR, DP, RP, RO, SGN, DR, DRNF, SR, SIM, SIL, K, L, MEM. RO is
+ * the data ROM cell at RP times 8. SGN is 7FFFH if A's S1 is 1, else 8000H. DR sets RQM,
+ * DRNF is DR without that. SIM is SI, SIL is SI with all 16 bits reversed; both clear
+ * SIACK. MEM is RAM at DP.
+ *
+ * DST 0 to 15: none, A, B, TR, DP, RP, DR, SR, SOL, SOM, K, KLR, KLM, L, none, MEM. DP
+ * and RP take the bus's low bits. DR sets RQM. SOM stores the bus in SO, SOL the bus
+ * reversed; both set SORQ and clear SOACK. KLR: K from the bus, L as RO. KLM: L from the
+ * bus, K from RAM at DP with bit 6 set to 1. MEM: RAM at DP.
+ */
+struct bemulatsho_op_fields {
+    uint8_t psel;  /* D20-19, P-select, operand of ALU 1 to 7: 0 RAM at DP, 1 bus, 2 M,
+                      3 N. M is K times L divided by 32768, rounded down, kept to 16 bits;
+                      N is the product's low 15 bits doubled */
+    uint8_t alu;   /* D18-15, ALU: the operation */
+    uint8_t asl;   /* D14, ASL: the accumulator, 0 A, 1 B */
+    uint8_t dpl;   /* D13-12, DPL: keep 0, up 1, down 2, clear 3 the low four bits of DP,
+                      without carry into the row */
+    uint8_t dphm;  /* D11-9, DPH-M: exclusive-ored into bits 6 to 4 of DP, the row. DPL
+                      and DPH-M are ignored if DST is DP */
+    uint8_t rpdcr; /* D8, RPDCR: 1 takes one from RP, 0 to 511; ignored if DST is RP */
+    uint8_t src;   /* D7-4, SRC: what goes on the bus */
+    uint8_t dst;   /* D3-0, DST: where the bus goes */
+};
+
+/*
+ * The fields of a JP word. CND 0 to 23 run in pairs, first "is 0" then "is 1", of CA, CB,
+ * ZA, ZB, OVA0, OVB0, OVA1, OVB1, SA0, SB0, SA1, SB1. 24: low DP (four bits) is 0. 25:
+ * low DP is 15. 26 to 31, again in pairs: SIACK, SOACK, RQM.
+ */
+struct bemulatsho_jp_fields {
+    uint8_t brch;  /* D20-18, BRCH: 2 jump on CND, 4 jump, 5 call (pushes PC plus one, 0
+                      from 511) */
+    uint8_t cnd;   /* D17-13, CND: the condition, not looked at by BRCH 4 and 5 */
+    uint16_t na;   /* D12-4, NA: the word to go to */
+    uint8_t spare; /* D3-0: not looked at when the word runs, but a field */
+};
+
+/* The fields of an LDI word. */
+struct bemulatsho_ldi_fields {
+    uint16_t id;   /* D20-5, ID: the constant, sent to DST as the bus */
+    uint8_t spare; /* D4: not looked at when the word runs, but a field */
+    uint8_t dst;   /* D3-0, DST: as in an OP word */
+};
+
+/*
+ * A word by its fields: op for rows OP and RT, jp for JP, ldi for LDI. The fields of the
+ * other rows are 0 when a word is taken apart, and not looked at when one is built.
+ */
+struct bemulatsho_rows {
+    uint8_t row; /* enum bemulatsho_row */
+    struct bemulatsho_op_fields op;
+    struct bemulatsho_jp_fields jp;
+    struct bemulatsho_ldi_fields ldi;
+};
+
+struct bemulatsho_taken_rows {
+    uint8_t refusal; /* 0 or 4 */
+    struct bemulatsho_rows rows;
+};
+
+struct bemulatsho_built {
+    uint8_t refusal; /* 0 or 11 */
+    uint32_t bits;   /* the word */
+};
+
+/*
+ * The row and the fields of a word. A word of 2^23 or more: refusal 4, with row 0 and
+ * every field 0. A word that would be refused when it runs is taken apart all the same.
+ */
+struct bemulatsho_taken_rows bemulatsho_take_apart(uint32_t word);
+
+/*
+ * The word that the fields of its row make. It undoes bemulatsho_take_apart for every
+ * word below 2^23. A field of its row too wide for its bits, or a row over 3: refusal 11,
+ * with word 0.
+ */
+struct bemulatsho_built bemulatsho_build(struct bemulatsho_rows rows);
+
+/* ---- layout: the bytes that the library expects; padding means nothing */
+
+#ifdef __cplusplus
+#define BEMULATSHO_HOLDS(what) static_assert(what, #what)
+#else
+#define BEMULATSHO_HOLDS(what) _Static_assert(what, #what)
+#endif
+#define BEMULATSHO_SIZE(name, size) \
+    BEMULATSHO_HOLDS(sizeof(struct bemulatsho_##name) == (size))
+#define BEMULATSHO_OFFSET(name, field, offset) \
+    BEMULATSHO_HOLDS(offsetof(struct bemulatsho_##name, field) == (offset))
+
+BEMULATSHO_HOLDS(sizeof(bool) == 1);
+BEMULATSHO_HOLDS(sizeof(size_t) == 8);
+BEMULATSHO_HOLDS(sizeof(void *) == 8);
+
+BEMULATSHO_SIZE(flags, 6);
+BEMULATSHO_OFFSET(flags, s1, 0);
+BEMULATSHO_OFFSET(flags, s0, 1);
+BEMULATSHO_OFFSET(flags, c, 2);
+BEMULATSHO_OFFSET(flags, z, 3);
+BEMULATSHO_OFFSET(flags, ov1, 4);
+BEMULATSHO_OFFSET(flags, ov0, 5);
+
+BEMULATSHO_SIZE(both_flags, 12);
+BEMULATSHO_OFFSET(both_flags, a, 0);
+BEMULATSHO_OFFSET(both_flags, b, 6);
+
+BEMULATSHO_SIZE(registers, 48);
+BEMULATSHO_OFFSET(registers, pc, 0);
+BEMULATSHO_OFFSET(registers, stack0, 2);
+BEMULATSHO_OFFSET(registers, stack1, 4);
+BEMULATSHO_OFFSET(registers, stack2, 6);
+BEMULATSHO_OFFSET(registers, stack3, 8);
+BEMULATSHO_OFFSET(registers, flags, 10);
+BEMULATSHO_OFFSET(registers, si, 22);
+BEMULATSHO_OFFSET(registers, siack, 24);
+BEMULATSHO_OFFSET(registers, depth, 25);
+BEMULATSHO_OFFSET(registers, a, 26);
+BEMULATSHO_OFFSET(registers, b, 28);
+BEMULATSHO_OFFSET(registers, k, 30);
+BEMULATSHO_OFFSET(registers, l, 32);
+BEMULATSHO_OFFSET(registers, tr, 34);
+BEMULATSHO_OFFSET(registers, dr, 36);
+BEMULATSHO_OFFSET(registers, so, 38);
+BEMULATSHO_OFFSET(registers, dp, 40);
+BEMULATSHO_OFFSET(registers, rp, 42);
+BEMULATSHO_OFFSET(registers, sr, 44);
+BEMULATSHO_OFFSET(registers, soack, 46);
+BEMULATSHO_OFFSET(registers, sorq, 47);
+
+BEMULATSHO_SIZE(event, 8);
+BEMULATSHO_OFFSET(event, kind, 0);
+BEMULATSHO_OFFSET(event, value, 4);
+
+BEMULATSHO_SIZE(reply, 6);
+BEMULATSHO_OFFSET(reply, number, 0);
+BEMULATSHO_OFFSET(reply, words, 2);
+BEMULATSHO_OFFSET(reply, value, 4);
+
+BEMULATSHO_SIZE(op_fields, 8);
+BEMULATSHO_OFFSET(op_fields, psel, 0);
+BEMULATSHO_OFFSET(op_fields, alu, 1);
+BEMULATSHO_OFFSET(op_fields, asl, 2);
+BEMULATSHO_OFFSET(op_fields, dpl, 3);
+BEMULATSHO_OFFSET(op_fields, dphm, 4);
+BEMULATSHO_OFFSET(op_fields, rpdcr, 5);
+BEMULATSHO_OFFSET(op_fields, src, 6);
+BEMULATSHO_OFFSET(op_fields, dst, 7);
+
+BEMULATSHO_SIZE(jp_fields, 6);
+BEMULATSHO_OFFSET(jp_fields, brch, 0);
+BEMULATSHO_OFFSET(jp_fields, cnd, 1);
+BEMULATSHO_OFFSET(jp_fields, na, 2);
+BEMULATSHO_OFFSET(jp_fields, spare, 4);
+
+BEMULATSHO_SIZE(ldi_fields, 4);
+BEMULATSHO_OFFSET(ldi_fields, id, 0);
+BEMULATSHO_OFFSET(ldi_fields, spare, 2);
+BEMULATSHO_OFFSET(ldi_fields, dst, 3);
+
+BEMULATSHO_SIZE(rows, 20);
+BEMULATSHO_OFFSET(rows, row, 0);
+BEMULATSHO_OFFSET(rows, op, 1);
+BEMULATSHO_OFFSET(rows, jp, 10);
+BEMULATSHO_OFFSET(rows, ldi, 16);
+
+BEMULATSHO_SIZE(taken_rows, 22);
+BEMULATSHO_OFFSET(taken_rows, refusal, 0);
+BEMULATSHO_OFFSET(taken_rows, rows, 2);
+
+BEMULATSHO_SIZE(built, 8);
+BEMULATSHO_OFFSET(built, refusal, 0);
+BEMULATSHO_OFFSET(built, bits, 4);
+
+#undef BEMULATSHO_OFFSET
+#undef BEMULATSHO_SIZE
+#undef BEMULATSHO_HOLDS
+
+#ifdef __cplusplus
+}
+#endif
+
+#endif
