@@ -1,0 +1,116 @@
+//! What the compared runs met: each code of each field in a word that finished, each condition both ways, each refusal, each kind of
+//! event answered. Something that was never met is a failure of the comparison.
+
+use emulator::{Registers, Word};
+
+/// How often each number of a field was met.
+struct Field {
+    name: &'static str,
+    counts: Vec<u64>,
+}
+
+impl Field {
+    fn new(name: &'static str, codes: usize) -> Field {
+        Field { name, counts: vec![0; codes] }
+    }
+
+    fn met(&mut self, code: usize) {
+        self.counts[code] += 1;
+    }
+
+    fn missing(&self) -> Vec<String> {
+        let none = self.counts.iter().enumerate().filter(|(_, count)| **count == 0);
+        none.map(|(code, _)| format!("{} {code}", self.name)).collect()
+    }
+}
+
+pub struct Coverage {
+    sources: Field,
+    destinations: Field,
+    // Operation, accumulator and P-select in one number.
+    operations: Field,
+    low_pointers: Field,
+    rows: Field,
+    rom_pointer: Field,
+    branches: Field,
+    // Condition and whether it held.
+    conditions: Field,
+    loads: Field,
+    returns: Field,
+    refusals: Field,
+    kinds: Field,
+}
+
+impl Coverage {
+    pub fn new() -> Coverage {
+        let mut coverage = Coverage {
+            sources: Field::new("source", 16),
+            destinations: Field::new("destination", 16),
+            operations: Field::new("operation, accumulator and P-select", 128),
+            low_pointers: Field::new("DPL", 4),
+            rows: Field::new("DPH-M", 8),
+            rom_pointer: Field::new("RPDCR", 2),
+            branches: Field::new("BRCH", 8),
+            conditions: Field::new("condition and its outcome", 64),
+            loads: Field::new("destination of LDI", 16),
+            returns: Field::new("RT", 2),
+            refusals: Field::new("refusal", 11),
+            kinds: Field::new("answered event", 8),
+        };
+        // Words with another BRCH are refused.
+        for unknown in [0, 1, 3, 6, 7] {
+            coverage.branches.met(unknown);
+        }
+        coverage
+    }
+
+    /// A word that finished, with the registers before and after it.
+    pub fn word(&mut self, word: &Word, before: &Registers, after: &Registers) {
+        match word {
+            Word::Op(f) | Word::Rt(f) => {
+                self.returns.met(usize::from(matches!(word, Word::Rt(_))));
+                self.sources.met(usize::from(f.src));
+                self.destinations.met(usize::from(f.dst));
+                self.operations.met(usize::from(f.alu) * 8 + usize::from(f.asl) * 4 + usize::from(f.psel));
+                self.low_pointers.met(usize::from(f.dpl));
+                self.rows.met(usize::from(f.dphm));
+                self.rom_pointer.met(usize::from(f.rpdcr));
+            }
+            Word::Jp(f) => {
+                self.branches.met(usize::from(f.brch));
+                let next = (before.pc + 1) % 512;
+                // A jump to the next word looks the same taken or not.
+                if f.brch == 2 && f.na != next {
+                    self.conditions.met(usize::from(f.cnd) * 2 + usize::from(after.pc != next));
+                }
+            }
+            Word::Ldi(f) => self.loads.met(usize::from(f.dst)),
+        }
+    }
+
+    pub fn reply(&mut self, kind: u32, number: u8) {
+        self.refusals.met(usize::from(number));
+        if number == 0 {
+            self.kinds.met(kind as usize);
+        }
+    }
+
+    /// What was never met.
+    pub fn missing(&self) -> Vec<String> {
+        let fields = [
+            &self.sources,
+            &self.destinations,
+            &self.operations,
+            &self.low_pointers,
+            &self.rows,
+            &self.rom_pointer,
+            &self.branches,
+            &self.conditions,
+            &self.loads,
+            &self.returns,
+            &self.refusals,
+            &self.kinds,
+        ];
+        fields.iter().flat_map(|field| field.missing()).collect()
+    }
+}
