@@ -1,0 +1,3 @@
+//! Programs that speed is measured on.
+
+pub mod programs;

@@ -1,0 +1,125 @@
+//! Words a second of the proved core, through the C interface with 65535 words a call, and of the emulator, on the same programs in
+//! turn; the instructions that a word takes by callgrind; and how many chips one core carries. A measurement, and no test.
+
+use speed::programs::{self, Program};
+use std::process::{exit, Command};
+use std::time::{Duration, Instant};
+
+/// Words of one call.
+const CALL: u32 = 65535;
+const ROUNDS: usize = 9;
+const SLICE: Duration = Duration::from_millis(150);
+/// The chip at 8 MHz, in words a second.
+const CHIP: f64 = 4e6;
+
+/// One machine that can be run on.
+trait Runs {
+    fn call(&mut self, program: &Program, ram: &mut [u16]) -> bool;
+}
+
+struct Core(bemulatsho::Registers);
+struct Emulator(emulator::Registers);
+
+impl Runs for Core {
+    fn call(&mut self, program: &Program, ram: &mut [u16]) -> bool {
+        let reply = bemulatsho::event(&mut self.0, &program.words, &program.rom, ram, 0, CALL);
+        reply.number == 0 && u32::from(reply.words) == CALL
+    }
+}
+
+impl Runs for Emulator {
+    fn call(&mut self, program: &Program, ram: &mut [u16]) -> bool {
+        let reply = emulator::event(&mut self.0, &program.words, &program.rom, ram, 0, CALL);
+        reply.number == 0 && u32::from(reply.words) == CALL
+    }
+}
+
+/// Million words a second over one slice of time.
+fn rate(machine: &mut impl Runs, program: &Program, ram: &mut [u16]) -> f64 {
+    let start = Instant::now();
+    let mut calls = 0u64;
+    while start.elapsed() < SLICE {
+        if !machine.call(program, ram) {
+            eprintln!("speed: a word of the {} was refused", program.name);
+            exit(1);
+        }
+        calls += 1;
+    }
+    calls as f64 * f64::from(CALL) / start.elapsed().as_secs_f64() / 1e6
+}
+
+fn median(mut rates: Vec<f64>) -> f64 {
+    rates.sort_by(f64::total_cmp);
+    rates[rates.len() / 2]
+}
+
+/// The core's and the emulator's median, and the median of their ratios, each round one after the other.
+fn measure(program: &Program) -> (f64, f64, f64) {
+    let (mut core, mut emulator) = (Core(bemulatsho::fresh_registers()), Emulator(emulator::Registers::default()));
+    let (mut core_ram, mut emulator_ram) = (program.ram.clone(), program.ram.clone());
+    let (mut cores, mut emulators, mut ratios) = (Vec::new(), Vec::new(), Vec::new());
+    for _ in 0..ROUNDS {
+        let proved = rate(&mut core, program, &mut core_ram);
+        let second = rate(&mut emulator, program, &mut emulator_ram);
+        cores.push(proved);
+        emulators.push(second);
+        ratios.push(proved / second);
+    }
+    (median(cores), median(emulators), median(ratios))
+}
+
+/// Instructions a word of the core: callgrind over one call and over two; the difference is one call.
+fn instructions(place: usize) -> Option<f64> {
+    let counted = |calls: &str| {
+        let program = std::env::current_exe().ok()?;
+        let output = Command::new("valgrind")
+            .args(["--tool=callgrind", "--callgrind-out-file=/dev/null"])
+            .arg(program)
+            .args(["count", &place.to_string(), calls])
+            .output()
+            .ok()?;
+        let text = String::from_utf8_lossy(&output.stderr);
+        let count = text.lines().find_map(|line| line.split_once("Collected : "))?.1;
+        count.trim().parse::<f64>().ok()
+    };
+    Some((counted("2")? - counted("1")?) / f64::from(CALL))
+}
+
+fn table() {
+    println!("million words a second, median of {ROUNDS} rounds in turn, {CALL} words a call");
+    println!("{:<14}{:>8}{:>10}{:>8}{:>14}{:>8}", "program", "core", "emulator", "ratio", "instructions", "chips");
+    for (place, program) in programs::all().iter().enumerate() {
+        let (core, emulator, ratio) = measure(program);
+        let instructions = instructions(place).map_or("no valgrind".to_string(), |count| format!("{count:.1}"));
+        println!("{:<14}{core:>8.1}{emulator:>10.1}{ratio:>8.2}{instructions:>14}{:>8.0}", program.name, core * 1e6 / CHIP);
+    }
+    println!("goals on the mixing loop: at most 90 instructions a word, 1.3 times the emulator, 30 chips");
+}
+
+/// So many calls of one program on the core and nothing else, for a counter of instructions.
+fn count(place: &str, calls: &str) {
+    let programs = programs::all();
+    let (Some(program), Ok(calls)) = (place.parse().ok().and_then(|place: usize| programs.get(place)), calls.parse::<u32>()) else {
+        eprintln!("speed: count takes the number of a program, 0 to {}, and a number of calls", programs.len() - 1);
+        exit(2);
+    };
+    let (mut core, mut ram) = (Core(bemulatsho::fresh_registers()), program.ram.clone());
+    for _ in 0..calls {
+        if !core.call(program, &mut ram) {
+            eprintln!("speed: a word of the {} was refused", program.name);
+            exit(1);
+        }
+    }
+}
+
+fn main() {
+    let arguments: Vec<String> = std::env::args().skip(1).collect();
+    match arguments.iter().map(String::as_str).collect::<Vec<_>>()[..] {
+        [] => table(),
+        ["count", place, calls] => count(place, calls),
+        _ => {
+            eprintln!("usage: speed | speed count PROGRAM CALLS");
+            exit(2);
+        }
+    }
+}
