@@ -3,7 +3,11 @@
 
 CARGO = cargo --offline --quiet
 
-.PHONY: run test generated compare lib count refusals clean
+# A longer comparison: `make compare-long SEED=1 EVENTS=500000000`.
+SEED = 1
+EVENTS = 200000000
+
+.PHONY: run test generated compare compare-long lib bench refusals clean
 
 # The bench list: what the rules expect and what the compiled functions answer.
 run:
@@ -15,25 +19,32 @@ run:
 test: generated
 	@tools/gate
 
-# Definitions that a script writes are what it writes.
+# What a script writes or checks against the proved sources: the record's setters, the C header.
 generated:
 	@tools/setters --check
+	@tools/header --check
 
-# The proved functions against the independent emulator.
+# The desk's library and its header.
+lib:
+	@mkdir -p target dist
+	@rt staticlib board >target/lib.log 2>&1 || { cat target/lib.log >&2; exit 1; }
+	@cp target/staticlib/libboard.a dist/libbemulatsho.a
+	@cp include/bemulatsho.h dist/bemulatsho.h
+
+# The library from C, C++ and Rust, and the proved core against the independent emulator.
 compare: lib
+	@tests/c/run dist
+	@tests/readme dist
 	@cd host && $(CARGO) test --release
 	@cd host && $(CARGO) run --release --package compare
 
-# The proved functions as a static library.
-lib:
-	@mkdir -p target
-	@rt staticlib probe >target/lib.log 2>&1 || { cat target/lib.log >&2; exit 1; }
+compare-long: lib
+	@cd host && $(CARGO) run --release --package compare -- machines $(SEED) $(EVENTS)
 
-# Instructions a word on the mixing loop, by callgrind; installs valgrind where it is missing.
-count: lib
+# Words a second, instructions a word and chips carried; callgrind counts the instructions.
+bench: lib
 	@command -v valgrind >/dev/null || apt-get install --yes --quiet valgrind >/dev/null
-	@cd host && $(CARGO) build --release --package compare
-	@tools/count
+	@cd host && $(CARGO) run --release --package speed
 
 # Tries the must-fail edits and prints why each is refused.
 refusals:
@@ -42,4 +53,4 @@ refusals:
 	@tools/refusals
 
 clean:
-	rm -rf target host/target
+	rm -rf target dist host/target
