@@ -6,7 +6,7 @@ use crate::refusal;
 use crate::registers::{Flags, Registers};
 use crate::stack;
 use crate::status::EI;
-use crate::step::step;
+use crate::step::{step_with, ROW_LAST};
 
 pub const RUN: u32 = 0;
 pub const HOST_READS_DATA: u32 = 1;
@@ -41,6 +41,19 @@ impl Reply {
 
 /// One call: one event. Registers and RAM are changed in place; what is refused leaves both as they were before it.
 pub fn event(registers: &mut Registers, program: &[u32], rom: &[u16], ram: &mut [u16], kind: u32, value: u32) -> Reply {
+    event_with::<ROW_LAST>(registers, program, rom, ram, kind, value)
+}
+
+/// `event` with a time for DPH-M.
+#[inline]
+pub(crate) fn event_with<const ROW: bool>(
+    registers: &mut Registers,
+    program: &[u32],
+    rom: &[u16],
+    ram: &mut [u16],
+    kind: u32,
+    value: u32,
+) -> Reply {
     if program.len() != WORDS || rom.len() != CELLS || ram.len() != RAM {
         return Reply::refusing(refusal::LENGTH);
     }
@@ -52,7 +65,7 @@ pub fn event(registers: &mut Registers, program: &[u32], rom: &[u16], ram: &mut 
     }
     let value = value as u16;
     match kind {
-        RUN => run(registers, program, rom, ram, value),
+        RUN => run::<ROW>(registers, program, rom, ram, value),
         HOST_READS_DATA => Reply::handing(host::read_data(registers)),
         HOST_WRITES_DATA => {
             host::write_data(registers, value);
@@ -75,9 +88,9 @@ fn highest_value(kind: u32) -> u32 {
 }
 
 /// Runs `count` words, or those before the first refused one.
-fn run(registers: &mut Registers, program: &[u32], rom: &[u16], ram: &mut [u16], count: u16) -> Reply {
+fn run<const ROW: bool>(registers: &mut Registers, program: &[u32], rom: &[u16], ram: &mut [u16], count: u16) -> Reply {
     for done in 0..count {
-        if let Err(number) = step(registers, program, rom, ram) {
+        if let Err(number) = step_with::<ROW>(registers, program, rom, ram) {
             return Reply { number, words: done, value: 0 };
         }
     }

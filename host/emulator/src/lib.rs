@@ -1,6 +1,7 @@
 //! A second, independent reading of the rules paper. Wide integers and plain code; it shares no line with the proved crates.
 //!
-//! `event` is one call from outside, `step` one word, `take_apart` and `build` go between a word and its fields.
+//! `event` is one call from outside, `step` one word, `take_apart` and `build` go between a word and its fields; `trial::event` is
+//! the same call on a machine with the trial desk's fault.
 
 pub mod accumulators;
 pub mod alu;
@@ -19,6 +20,7 @@ pub mod registers;
 pub mod stack;
 pub mod status;
 pub mod step;
+pub mod trial;
 pub mod word;
 
 pub use device::{CELLS, RAM, WORDS};

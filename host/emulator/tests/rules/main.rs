@@ -22,4 +22,5 @@ mod runs;
 mod sources;
 mod status_register;
 mod three_adds;
+mod trial_desk;
 mod words_and_fields;
