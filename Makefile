@@ -7,12 +7,16 @@ CARGO = cargo --offline --quiet
 SEED = 1
 EVENTS = 200000000
 
-.PHONY: run test generated compare compare-long lib bench refusals clean
+.PHONY: run cases test generated compare compare-long damaged-long lib desk bench refusals clean
+
+# A small example on the desk: three tones mixed to a track, checked against exact arithmetic. The program is left in dist/desk.
+run: desk
+	@dist/desk example dist/example
 
 # The bench list: what the rules expect and what the compiled functions answer.
-run:
+cases:
 	@mkdir -p target
-	@echo 'proving what the bench list runs (about a minute the first time)' >&2
+	@echo 'proving what the bench list runs (about three minutes the first time)' >&2
 	@rt check bench >target/run.log 2>&1 || { cat target/run.log >&2; exit 1; }
 	@./target/bin/bench
 
@@ -27,6 +31,7 @@ generated:
 # The desk's library and its header.
 lib:
 	@mkdir -p target dist
+	@[ -f target/staticlib/libboard.a ] || echo 'proving the core (about three minutes the first time)' >&2
 	@rt staticlib board >target/lib.log 2>&1 || { cat target/lib.log >&2; exit 1; }
 	@cp target/staticlib/libboard.a dist/libbemulatsho.a
 	@cp include/bemulatsho.h dist/bemulatsho.h
@@ -35,11 +40,21 @@ lib:
 compare: lib
 	@tests/c/run dist
 	@tests/readme dist
+	@tests/first_commands
 	@cd host && $(CARGO) test --release
 	@cd host && $(CARGO) run --release --package compare
 
 compare-long: lib
 	@cd host && $(CARGO) run --release --package compare -- machines $(SEED) $(EVENTS)
+
+# The desk program.
+desk: lib
+	@cd host && $(CARGO) build --release --package desk
+	@cp host/target/release/desk dist/desk
+
+# Some million damaged scripts and sound files; the gate tries some thousand.
+damaged-long: lib
+	@cd host && DAMAGED=3000000 $(CARGO) test --release --package desk --test damaged -- --nocapture
 
 # Words a second, instructions a word and chips carried; callgrind counts the instructions.
 bench: lib
