@@ -1,7 +1,7 @@
 /*
- * Every function of the library, called from C. The numbers are those of the rules paper (01).
- * What is lent comes from malloc with exactly the length lent, so that a memory checker sees any
- * access outside. The first check that fails ends the program with status 1.
+ * Every function of the library, called from C11 and, by the same text, from C++17. The numbers are
+ * those of the rules paper (01). What is lent comes from malloc with exactly the length lent, so that
+ * a memory checker sees any access outside. The first check that fails ends the program with status 1.
  */
 #include "bemulatsho.h"
 
@@ -94,13 +94,13 @@ struct machine {
 static struct machine lend_lengths(size_t program_length, size_t rom_length, size_t ram_length)
 {
     struct machine m;
-    m.registers = lend(1, sizeof *m.registers);
+    m.registers = (struct bemulatsho_registers *)lend(1, sizeof *m.registers);
     *m.registers = bemulatsho_fresh_registers();
-    m.program = lend(program_length, sizeof *m.program);
+    m.program = (uint32_t *)lend(program_length, sizeof *m.program);
     m.program_length = program_length;
-    m.rom = lend(rom_length, sizeof *m.rom);
+    m.rom = (uint16_t *)lend(rom_length, sizeof *m.rom);
     m.rom_length = rom_length;
-    m.ram = lend(ram_length, sizeof *m.ram);
+    m.ram = (uint16_t *)lend(ram_length, sizeof *m.ram);
     m.ram_length = ram_length;
     return m;
 }
@@ -135,7 +135,7 @@ static struct state state_of(struct machine m)
 {
     struct state s;
     s.registers = *m.registers;
-    s.ram = lend(m.ram_length, sizeof *s.ram);
+    s.ram = (uint16_t *)lend(m.ram_length, sizeof *s.ram);
     memcpy(s.ram, m.ram, m.ram_length * sizeof *s.ram);
     return s;
 }
