@@ -136,6 +136,25 @@ fn nothing_outside(guard: Guard) {
     }
 }
 
+/// Reads one element outside a buffer; only ever run by the test below, in a process of its own.
+#[test]
+#[ignore = "ends its process by a signal"]
+fn touches_outside() {
+    let mut page = Guarded::new();
+    let behind = page.slice::<u16>(Guard::After, 128).as_ptr_range().end;
+    // SAFETY: none: the page behind has no rights, and the read must end the process.
+    let value = unsafe { behind.read_volatile() };
+    println!("read {value}");
+}
+
+#[test]
+fn a_guard_ends_whoever_touches_it() {
+    use std::os::unix::process::ExitStatusExt;
+    let program = std::env::current_exe().expect("this test");
+    let ended = std::process::Command::new(program).args(["--ignored", "--exact", "touches_outside"]).output().expect("it starts");
+    assert!(ended.status.signal().is_some(), "{:?}", ended.status);
+}
+
 #[test]
 fn nothing_is_touched_behind_what_was_lent() {
     nothing_outside(Guard::After);

@@ -36,6 +36,54 @@ fn apart_and_together(word: u32) -> Result<(), String> {
     Ok(())
 }
 
+/// Fields of any width, most of them too wide, and words of any width: refusals 11 and 4, by both.
+pub fn compare_widths(seed: u64) -> Result<u64, String> {
+    const EACH: u64 = 500_000;
+    let mut random = Random::new(seed);
+    let mut met = [0u64; 12];
+    for _ in 0..EACH {
+        let word = any_fields(&mut random);
+        let (proved, second) = (bemulatsho::build(&word), emulator::build(&fields(word)));
+        if proved != second {
+            return Err(format!("{word:X?} is built differently: {proved:X?} proved, {second:X?} second"));
+        }
+        met[usize::from(proved.err().unwrap_or(0))] += 1;
+        let bits = random.next() as u32;
+        let (proved, second) = (bemulatsho::take_apart(bits).map(fields), emulator::take_apart(bits));
+        if proved != second {
+            return Err(format!("{bits:X}H is taken apart differently: {proved:X?} proved, {second:X?} second"));
+        }
+        met[usize::from(proved.err().unwrap_or(0))] += 1;
+    }
+    if met[0] == 0 || met[4] == 0 || met[11] == 0 {
+        return Err(format!("refusals 0, 4 and 11 were met {}, {} and {} times", met[0], met[4], met[11]));
+    }
+    Ok(2 * EACH)
+}
+
+/// Each field is of any width one time in twelve.
+fn any_fields(random: &mut Random) -> bemulatsho::Word {
+    let mut field = |bits: u32| if random.one_in(12) { random.next() as u8 } else { random.below(1 << bits) as u8 };
+    let op = bemulatsho::OpFields {
+        psel: field(2),
+        alu: field(4),
+        asl: field(1),
+        dpl: field(2),
+        dphm: field(3),
+        rpdcr: field(1),
+        src: field(4),
+        dst: field(4),
+    };
+    let (brch, cnd, spare) = (field(3), field(5), field(4));
+    let na = if random.one_in(12) { random.next() as u16 } else { random.below(512) as u16 };
+    match random.below(4) {
+        0 => bemulatsho::Word::Op(op),
+        1 => bemulatsho::Word::Rt(op),
+        2 => bemulatsho::Word::Jp(bemulatsho::JpFields { brch, cnd, na, spare }),
+        _ => bemulatsho::Word::Ldi(bemulatsho::LdiFields { id: random.next() as u16, spare: spare % 3, dst: op.dst }),
+    }
+}
+
 pub fn compare(seed: u64) -> Result<u64, String> {
     let mut random = Random::new(seed);
     let registers = states::fitting_registers(&mut random);

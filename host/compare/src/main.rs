@@ -52,6 +52,7 @@ fn everything() -> Result<(), String> {
     }
     random_machines(SEED, EVENTS)?;
     report(every_word::compare(SEED)?, "words: each of 2^23 run from a random state, taken apart and built");
+    report(every_word::compare_widths(SEED)?, "fields and words of any width, refusals 11 and 4 among them");
     for line in listings::run()? {
         println!("compare: {line}");
     }
