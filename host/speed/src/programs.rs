@@ -78,6 +78,25 @@ pub fn jumps() -> Program {
     program
 }
 
-pub fn all() -> [Program; 3] {
-    [mixing_loop(), biquad(), jumps()]
+/// 512 times the same word.
+fn alone(name: &'static str, word: u32) -> Program {
+    Program { words: vec![word; 512], ..lent(name, &[]) }
+}
+
+/// How many of all are loops; the rest are words alone.
+pub const LOOPS: usize = 3;
+
+pub fn all() -> [Program; 10] {
+    [
+        mixing_loop(),
+        biquad(),
+        jumps(),
+        alone("LDI", 0x600004),
+        alone("move", 0x0000d3),
+        alone("jump untaken", 0x4a4000),
+        alone("word 0", 0x000000),
+        alone("SHR1", 0x058000),
+        alone("ADD M", 0x128000),
+        alone("ADD M, move", 0x1281fb),
+    ]
 }
