@@ -23,7 +23,7 @@ use Rattle.stages.specs.Codes.{destinations, destinationOf}
 use Rattle.stages.specs.Destinations.{loaded}
 use Rattle.stages.specs.declared.codes.Source.{Source}
 use Rattle.stages.specs.declared.codes.Source.the-variants as Source
-use Rattle.stages.specs.Pointing.{pointed}
+use Rattle.stages.specs.Pointing.{dpAfter, pointed}
 
 either : {A : Type 0} (s t : Bool) (x : A) → cond s x (cond t x x) ≡ x
 either true t x = refl
@@ -35,16 +35,22 @@ pub accumulated-idle : (r : Registers) (f : OpFields) (bus : ℕ) (ram : List �
 unfolding accumulated operated
 accumulated-idle r f bus ram e = rw e (either (blocked f) (eqb (f .asl) 0) r)
 
+-- DPL 0 and DPH-M 0 leave DP where it is
+pub dpAfter-idle : (dp : RamPointer) (f : OpFields) → f .dpl ≡ 0 → f .dphm ≡ 0 → dpAfter dp dp f ≡ dp
+dpAfter-idle dp f e₁ e₂ = rw (e₁, e₂, ramPointerMoved-still dp) (go (eqb (f .dst) 4))
+  where
+    go : (s : Bool) → cond s dp dp ≡ dp
+    go true = refl
+    go false = refl
+
 -- DPL 0, DPH-M 0 and RPDCR 0 move no pointer
 pub pointed-idle : (r : Registers) (f : OpFields) → f .dpl ≡ 0 → f .dphm ≡ 0 → f .rpdcr ≡ 0 → pointed (r .dp) (r .rp) r f ≡ r
 unfolding pointed
-pointed-idle r f e₁ e₂ e₃ = rw (e₁, e₂, e₃, ramPointerMoved-still (r .dp)) (go (eqb (f .dst) 4) (eqb (f .dst) 5))
+pointed-idle r f e₁ e₂ e₃ = rw (dpAfter-idle (r .dp) f e₁ e₂, e₃) (go (eqb (f .dst) 5))
   where
-    go : (s t : Bool) → set-rp (set-dp r (cond s (r .dp) (r .dp))) (cond t (r .rp) (r .rp)) ≡ r
-    go true true = refl
-    go true false = refl
-    go false true = refl
-    go false false = refl
+    go : (t : Bool) → set-rp (set-dp r (r .dp)) (cond t (r .rp) (r .rp)) ≡ r
+    go true = refl
+    go false = refl
 
 -- ---- "Everything is read from the state before the word": what a stage reads, the stages before it left alone
 

@@ -9,16 +9,20 @@ use alu::Plan;
 use device::BothFlags;
 use device::Registers;
 
-// The P input.
+// The P input. Halves first: a match of four arms becomes a jump through a table.
 fn operand(r: Registers, psel: u32, bus: u16, ram: &[u16]) -> u16
     ensures { λ x. ⌜ x ≡ operandOf r psel bus (now (ram .entry)) ⌝ }
 {
-    match psel {
-        0 => device::cell_at(ram, r.dp.0),
-        1 => bus,
-        2 => multiplier::m(r.k, r.l),
-        _ => multiplier::n(r.k, r.l),
+    if 2 <= psel {
+        if psel == 2 {
+            return multiplier::m(r.k, r.l);
+        }
+        return multiplier::n(r.k, r.l);
     }
+    if psel == 0 {
+        return device::cell_at(ram, r.dp.0);
+    }
+    bus
 }
 
 fn store_a(r: Registers, x: Accumulator) -> Registers

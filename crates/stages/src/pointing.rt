@@ -9,6 +9,9 @@ use device::RomPointer;
 fn dp_after(dp: RamPointer, w: u32) -> RamPointer
     ensures { λ r. ⌜ r ≡ dpAfter dp dp (opFields w) ⌝ }
 {
+    if word::bits(w, 13, 9) == 0 {
+        return dp;
+    }
     if word::bits(w, 3, 0) == 4 {
         return dp;
     }

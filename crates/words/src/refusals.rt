@@ -10,7 +10,7 @@ use device::Upd77p20;
 // The first RT word.
 pub(crate) const FIRST_RT: u32 = 1 << 21;
 
-// A word without a source whose bus would be looked at.
+// A word without a source whose bus would be looked at. Tests one by one: most such words are done after two of them.
 fn source_missing(w: u32) -> bool
     ensures { λ r. ⌜ r ≡ spec.sourceMissing (opFields w) ⌝ }
 {
@@ -18,8 +18,14 @@ fn source_missing(w: u32) -> bool
         return false;
     }
     let dst = word::bits(w, 3, 0);
+    if (dst != 0) & (dst != 14) {
+        return true;
+    }
+    if word::bits(w, 20, 19) != 1 {
+        return false;
+    }
     let code = word::bits(w, 18, 15);
-    !((dst == 0) | (dst == 14)) | ((1 <= code) & (code <= 7) & (word::bits(w, 20, 19) == 1))
+    (1 <= code) & (code <= 7)
 }
 
 fn cell_too_wide(r: Registers, rom: &[u16]) -> bool

@@ -48,13 +48,14 @@ fn rate(machine: &mut impl Runs, program: &Program, ram: &mut [u16]) -> f64 {
     calls as f64 * f64::from(CALL) / start.elapsed().as_secs_f64() / 1e6
 }
 
-fn median(mut rates: Vec<f64>) -> f64 {
+/// The least, the median and the most.
+fn spread(mut rates: Vec<f64>) -> [f64; 3] {
     rates.sort_by(f64::total_cmp);
-    rates[rates.len() / 2]
+    [rates[0], rates[rates.len() / 2], rates[rates.len() - 1]]
 }
 
-/// The core's and the emulator's median, and the median of their ratios, each round one after the other.
-fn measure(program: &Program) -> (f64, f64, f64) {
+/// The spread of the core's and of the emulator's rates, and of their ratios, each round one after the other.
+fn measure(program: &Program) -> [[f64; 3]; 3] {
     let (mut core, mut emulator) = (Core(bemulatsho::fresh_registers()), Emulator(emulator::Registers::default()));
     let (mut core_ram, mut emulator_ram) = (program.ram.clone(), program.ram.clone());
     let (mut cores, mut emulators, mut ratios) = (Vec::new(), Vec::new(), Vec::new());
@@ -65,7 +66,7 @@ fn measure(program: &Program) -> (f64, f64, f64) {
         emulators.push(second);
         ratios.push(proved / second);
     }
-    (median(cores), median(emulators), median(ratios))
+    [spread(cores), spread(emulators), spread(ratios)]
 }
 
 /// Instructions a word of the core: callgrind over one call and over two; the difference is one call.
@@ -102,15 +103,16 @@ fn missed(place: usize, ratio: f64, instructions: Option<f64>, chips: f64) -> St
 
 fn table(programs: &[Program]) {
     println!("million words a second, median of {ROUNDS} rounds in turn, {CALL} words a call");
-    println!("{:<14}{:>8}{:>10}{:>8}{:>14}{:>8}", "program", "core", "emulator", "ratio", "instructions", "chips");
+    println!("{:<14}{:>8}{:>14}{:>10}{:>8}{:>14}{:>8}", "program", "core", "least, most", "emulator", "ratio", "instructions", "chips");
     for program in programs {
-        let (core, emulator, ratio) = measure(program);
+        let [[least, core, most], [_, emulator, _], [_, ratio, _]] = measure(program);
         let place = programs::all().iter().position(|other| other.name == program.name);
         let counted = place.and_then(instructions);
         let printed = counted.map_or("no valgrind".to_string(), |count| format!("{count:.1}"));
         let chips = core * 1e6 / CHIP;
         let missed = place.filter(|place| *place < programs::LOOPS).map_or(String::new(), |place| missed(place, ratio, counted, chips));
-        println!("{:<14}{core:>8.1}{emulator:>10.1}{ratio:>8.2}{printed:>14}{chips:>8.0}{missed}", program.name);
+        let range = format!("{least:.0}, {most:.0}");
+        println!("{:<14}{core:>8.1}{range:>14}{emulator:>10.1}{ratio:>8.2}{printed:>14}{chips:>8.0}{missed}", program.name);
     }
 }
 

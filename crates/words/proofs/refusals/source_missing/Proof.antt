@@ -1,19 +1,66 @@
--- `source_missing`: the definition's test with the fields read from the word.
+-- `source_missing`: the definition's tests one by one, with the fields read from the word.
 -- Assumes nothing.
+use Prim.Native.Nat.{ℕ}
 use native.Mathlib.Omega.{arith}
-use borrow.Author.Tests.{eq-eqb, ne-eqb, le-leb, lt-leb, lt-ltb, le-ltb}
+use mathlib.Core.Path.{_≡_, refl, sym, _∙_}
+use mathlib.Core.Bool.{Bool, true, false, not, _&&_, _||_}
+use borrow.Author.Tests.{eq-eqb, ne-eqb}
+use lib.Dec.{eqb, leb}
 use Rattle.numbers.specs.Bits.{bits}
 use borrow.Author.Needs.{needs}
 use Rattle.words.proofs.refusals.source_missing.Statement.{statement}
 use Rattle.words.proofs.refusals.source_missing.Tie as tie
 
+-- neither of two is not one of them
+neither : (p q : Bool) → not (p || q) ≡ (not p && not q)
+neither true q = refl
+neither false q = refl
+
+-- the code's test of a destination d, which is the word's n
+sends : (d n : ℕ) {b : Bool} → d ≡ n → (not (eqb d 0) && not (eqb d 14)) ≡ b → not (eqb n 0 || eqb n 14) ≡ b
+sends d n e h = rw (sym e) (neither (eqb d 0) (eqb d 14) ∙ h)
+
+-- the last of three tests decides, or is not asked
+denied : (p q : Bool) → false ≡ (p && q && false)
+denied true true = refl
+denied true false = refl
+denied false q = refl
+
+granted : (p q : Bool) → (p && q) ≡ (p && q && true)
+granted true true = refl
+granted true false = refl
+granted false q = refl
+
 returns : tie.Need-returns
 returns c = rw (ne-eqb (bits (c .before .before .args .w) 7 4) 0 (λ e. omega (arith, c .if1 .taken)))
 
 returns-2 : tie.Need-returns-2
-returns-2 c = rw (eq-eqb (bits (c .before .before .before .before .before .args .w) 7 4) 0 (omega arith), c .bits4 .ensures, c .before .bits3 .ensures, c .before .before .bits2 .ensures)
+returns-2 c =
+    let w = c .before .before .before .before .args .w in
+    rw (eq-eqb (bits w 7 4) 0 (omega arith), sends _ _ (c .before .bits2 .ensures) (c .if2 .taken))
+
+returns-3 : tie.Need-returns-3
+returns-3 c =
+    let w = c .before .before .before .before .before .before .args .w in
+    rw (
+      eq-eqb (bits w 7 4) 0 (omega arith),
+      sends _ _ (c .before .before .before .bits2 .ensures) (c .before .before .if2 .left),
+      ne-eqb (bits w 20 19) 1 (λ e. omega (arith, c .if3 .taken)),
+    )
+    (denied (leb 1 (bits w 18 15)) (leb (bits w 18 15) 7))
+
+returns-4 : tie.Need-returns-4
+returns-4 c =
+    let w = c .before .before .before .before .before .before .before .args .w in
+    rw (
+      eq-eqb (bits w 7 4) 0 (omega arith),
+      sends _ _ (c .before .before .before .before .bits2 .ensures) (c .before .before .before .if2 .left),
+      eq-eqb (bits w 20 19) 1 (omega arith),
+      c .bits4 .ensures,
+    )
+    (granted (leb 1 (bits w 18 15)) (leb (bits w 18 15) 7))
 
 pub source-missing-spec : {M : Type 1} → statement M
 source-missing-spec =
-    tie.close (tie.spec (λ c κs. search needs) returns (λ c κs. search needs) (λ c κs. search needs)
-    (λ c κs. search needs) returns-2)
+    tie.close (tie.spec (λ c κs. search needs) returns (λ c κs. search needs) returns-2 (λ c κs. search needs) returns-3
+    (λ c κs. search needs) returns-4)
