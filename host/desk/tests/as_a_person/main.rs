@@ -4,5 +4,6 @@ mod check_track;
 mod folder;
 mod help;
 mod mix;
+mod progress;
 mod run;
 mod trace;
