@@ -1,3 +1,4 @@
-//! Programs that speed is measured on.
+//! Programs that speed is measured on, and a yardstick for the machine.
 
 pub mod programs;
+pub mod yardstick;

@@ -1,7 +1,9 @@
 //! Words a second of the proved core, through the C interface with 65535 words a call, and of the emulator, on the same programs in
-//! turn; the instructions that a word takes by callgrind; and how many chips one core carries. A measurement, and no test.
+//! turn; the instructions that a word takes by callgrind; how many chips one core carries; and what the processor could do meanwhile.
+//! A measurement, and no test.
 
 use speed::programs::{self, Program};
+use speed::yardstick;
 use std::process::{exit, Command};
 use std::time::{Duration, Instant};
 
@@ -54,19 +56,20 @@ fn spread(mut rates: Vec<f64>) -> [f64; 3] {
     [rates[0], rates[rates.len() / 2], rates[rates.len() - 1]]
 }
 
-/// The spread of the core's and of the emulator's rates, and of their ratios, each round one after the other.
-fn measure(program: &Program) -> [[f64; 3]; 3] {
+/// The spread of the core's and of the emulator's rates, of their ratios, and of the yardstick, each round one after the other.
+fn measure(program: &Program) -> [[f64; 3]; 4] {
     let (mut core, mut emulator) = (Core(bemulatsho::fresh_registers()), Emulator(emulator::Registers::default()));
     let (mut core_ram, mut emulator_ram) = (program.ram.clone(), program.ram.clone());
-    let (mut cores, mut emulators, mut ratios) = (Vec::new(), Vec::new(), Vec::new());
+    let (mut cores, mut emulators, mut ratios, mut yardsticks) = (Vec::new(), Vec::new(), Vec::new(), Vec::new());
     for _ in 0..ROUNDS {
+        yardsticks.push(yardstick::additions());
         let proved = rate(&mut core, program, &mut core_ram);
         let second = rate(&mut emulator, program, &mut emulator_ram);
         cores.push(proved);
         emulators.push(second);
         ratios.push(proved / second);
     }
-    [spread(cores), spread(emulators), spread(ratios)]
+    [spread(cores), spread(emulators), spread(ratios), spread(yardsticks)]
 }
 
 /// Instructions a word of the core: callgrind over one call and over two; the difference is one call.
@@ -103,16 +106,20 @@ fn missed(place: usize, ratio: f64, instructions: Option<f64>, chips: f64) -> St
 
 fn table(programs: &[Program]) {
     println!("million words a second, median of {ROUNDS} rounds in turn, {CALL} words a call");
-    println!("{:<14}{:>8}{:>14}{:>10}{:>8}{:>14}{:>8}", "program", "core", "least, most", "emulator", "ratio", "instructions", "chips");
+    println!("additions: thousand million a second that the processor did in between");
+    println!(
+        "{:<14}{:>8}{:>14}{:>10}{:>8}{:>14}{:>11}{:>8}",
+        "program", "core", "least, most", "emulator", "ratio", "instructions", "additions", "chips"
+    );
     for program in programs {
-        let [[least, core, most], [_, emulator, _], [_, ratio, _]] = measure(program);
+        let [[least, core, most], [_, emulator, _], [_, ratio, _], [_, additions, _]] = measure(program);
         let place = programs::all().iter().position(|other| other.name == program.name);
         let counted = place.and_then(instructions);
         let printed = counted.map_or("no valgrind".to_string(), |count| format!("{count:.1}"));
         let chips = core * 1e6 / CHIP;
         let missed = place.filter(|place| *place < programs::LOOPS).map_or(String::new(), |place| missed(place, ratio, counted, chips));
         let range = format!("{least:.0}, {most:.0}");
-        println!("{:<14}{core:>8.1}{range:>14}{emulator:>10.1}{ratio:>8.2}{printed:>14}{chips:>8.0}{missed}", program.name);
+        println!("{:<14}{core:>8.1}{range:>14}{emulator:>10.1}{ratio:>8.2}{printed:>14}{additions:>11.1}{chips:>8.0}{missed}", program.name);
     }
 }
 

@@ -13,7 +13,7 @@ fn a_terminal_sees_the_share_that_is_done() {
     // `script` gives the program a terminal and hands on what it writes there.
     let output = Command::new("script")
         .args(["--quiet", "--return", "--command"])
-        .arg(format!("{} check-track long.record", env!("CARGO_BIN_EXE_desk")))
+        .arg(format!("'{}' check-track long.record", env!("CARGO_BIN_EXE_desk")))
         .arg("/dev/null")
         .current_dir(&folder.0)
         .stdin(Stdio::null())
