@@ -27,7 +27,7 @@ pub struct Difference {
 
 struct Answer {
     reply: Reply,
-    registers: Registers,
+    registers: bemulatsho::Registers,
     ram: Vec<u16>,
 }
 
@@ -53,12 +53,12 @@ impl Pair {
         let proved = bemulatsho::event(&mut core, &self.program, &self.rom, &mut self.core_ram, kind, value);
         let proved = Reply { number: proved.number, words: proved.words, value: proved.value };
         let second = emulator::event(&mut self.registers, &self.program, &self.rom, &mut self.ram, kind, value);
-        let core = emulator_record(&core);
-        if proved == second && core == self.registers && self.core_ram == self.ram {
+        let second_record = core_record(&self.registers);
+        if proved == second && core == second_record && self.core_ram == self.ram {
             return Ok(second);
         }
         let proved = Answer { reply: proved, registers: core, ram: self.core_ram.clone() };
-        let second = Answer { reply: second, registers: self.registers, ram: self.ram.clone() };
+        let second = Answer { reply: second, registers: second_record, ram: self.ram.clone() };
         self.registers = saved;
         self.ram.clone_from(&self.saved_ram);
         Err(Box::new(Difference { before: self.clone(), kind, value, proved, second }))
@@ -98,7 +98,7 @@ impl fmt::Display for Difference {
         if let Some(word) = before.program.get(pc) {
             writeln!(f, "  word at PC: {word:06X}H {:?}", emulator::take_apart(*word).ok())?;
         }
-        writeln!(f, "  before: {:X?}", before.registers)?;
+        writeln!(f, "  before: {:X?}", core_record(&before.registers))?;
         writeln!(f, "  proved: {:X?} {:X?}", proved.reply, proved.registers)?;
         writeln!(f, "  second: {:X?} {:X?}", second.reply, second.registers)?;
         for (place, (one, other)) in proved.ram.iter().zip(&second.ram).enumerate() {
@@ -114,39 +114,11 @@ fn core_flags(f: &Flags) -> bemulatsho::Flags {
     bemulatsho::Flags { s1: f.s1, s0: f.s0, c: f.c, z: f.z, ov1: f.ov1, ov0: f.ov0 }
 }
 
-fn emulator_flags(f: &bemulatsho::Flags) -> Flags {
-    Flags { s1: f.s1, s0: f.s0, c: f.c, z: f.z, ov1: f.ov1, ov0: f.ov0 }
-}
-
 fn core_record(r: &Registers) -> bemulatsho::Registers {
     bemulatsho::Registers {
         pc: r.pc,
         stack: r.stack,
         flags: bemulatsho::BothFlags { a: core_flags(&r.flags_a), b: core_flags(&r.flags_b) },
-        si: r.si,
-        siack: r.siack,
-        depth: r.depth,
-        a: r.a,
-        b: r.b,
-        k: r.k,
-        l: r.l,
-        tr: r.tr,
-        dr: r.dr,
-        so: r.so,
-        dp: r.dp,
-        rp: r.rp,
-        sr: r.sr,
-        soack: r.soack,
-        sorq: r.sorq,
-    }
-}
-
-fn emulator_record(r: &bemulatsho::Registers) -> Registers {
-    Registers {
-        pc: r.pc,
-        stack: r.stack,
-        flags_a: emulator_flags(&r.flags.a),
-        flags_b: emulator_flags(&r.flags.b),
         si: r.si,
         siack: r.siack,
         depth: r.depth,
