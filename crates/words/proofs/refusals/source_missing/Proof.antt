@@ -3,7 +3,7 @@
 use Prim.Native.Nat.{ℕ}
 use native.Mathlib.Omega.{arith}
 use mathlib.Core.Path.{_≡_, refl, sym, _∙_}
-use mathlib.Core.Bool.{Bool, true, false, not, _&&_, _||_}
+use mathlib.Core.Bool.{Bool, true, false, not, _&&_, _||_, and-true, and-false}
 use borrow.Author.Tests.{eq-eqb, ne-eqb}
 use lib.Dec.{eqb, leb}
 use Rattle.numbers.specs.Bits.{bits}
@@ -19,17 +19,6 @@ neither false q = refl
 -- the code's test of a destination d, which is the word's n
 sends : (d n : ℕ) {b : Bool} → d ≡ n → (not (eqb d 0) && not (eqb d 14)) ≡ b → not (eqb n 0 || eqb n 14) ≡ b
 sends d n e h = rw (sym e) (neither (eqb d 0) (eqb d 14) ∙ h)
-
--- the last of three tests decides, or is not asked
-denied : (p q : Bool) → false ≡ (p && q && false)
-denied true true = refl
-denied true false = refl
-denied false q = refl
-
-granted : (p q : Bool) → (p && q) ≡ (p && q && true)
-granted true true = refl
-granted true false = refl
-granted false q = refl
 
 returns : tie.Need-returns
 returns c = rw (ne-eqb (bits (c .before .before .args .w) 7 4) 0 (λ e. omega (arith, c .if1 .taken)))
@@ -47,7 +36,7 @@ returns-3 c =
       sends _ _ (c .before .before .before .bits2 .ensures) (c .before .before .if2 .left),
       ne-eqb (bits w 20 19) 1 (λ e. omega (arith, c .if3 .taken)),
     )
-    (denied (leb 1 (bits w 18 15)) (leb (bits w 18 15) 7))
+    (sym (and-false (leb 1 (bits w 18 15) && leb (bits w 18 15) 7)))
 
 returns-4 : tie.Need-returns-4
 returns-4 c =
@@ -58,7 +47,7 @@ returns-4 c =
       eq-eqb (bits w 20 19) 1 (omega arith),
       c .bits4 .ensures,
     )
-    (granted (leb 1 (bits w 18 15)) (leb (bits w 18 15) 7))
+    (sym (and-true (leb 1 (bits w 18 15) && leb (bits w 18 15) 7)))
 
 pub source-missing-spec : {M : Type 1} → statement M
 source-missing-spec =
