@@ -2,6 +2,15 @@
 # make test   everything that decides whether a change is good; its last line is 'N passed, 0 failed'
 
 CARGO = cargo --offline --quiet
+BUILT = host/target/release
+FOR_X86_64 =
+
+# The library is for x86-64: on another processor programs are built for it and run under an emulator.
+ifneq ($(shell uname -m),x86_64)
+FOR_X86_64 = '$(CURDIR)/tools/x86_64'
+CARGO := $(FOR_X86_64) $(CARGO)
+BUILT = host/target/x86_64-unknown-linux-gnu/release
+endif
 
 # A longer comparison: `make compare-long SEED=1 EVENTS=500000000`.
 SEED = 1
@@ -18,7 +27,7 @@ cases:
 	@mkdir -p target
 	@echo 'proving what the bench list runs (about three minutes the first time)' >&2
 	@rt check bench >target/run.log 2>&1 || { cat target/run.log >&2; exit 1; }
-	@./target/bin/bench
+	@$(FOR_X86_64) ./target/bin/bench
 
 test: generated
 	@tools/gate
@@ -36,10 +45,12 @@ lib:
 	@cp target/staticlib/libboard.a dist/libbemulatsho.a
 	@cp include/bemulatsho.h dist/bemulatsho.h
 
-# The library from C, C++ and Rust, and the proved core against the independent emulator.
+# The scripts that judge, the library from C, C++ and Rust, and the proved core against the independent emulator.
 compare: lib
-	@tests/c/run dist
-	@tests/readme dist
+	@tests/gate
+	@tests/refusals
+	@$(FOR_X86_64) tests/c/run dist
+	@$(FOR_X86_64) tests/readme dist
 	@tests/first_commands
 	@cd host && $(CARGO) test --release
 	@cd host && $(CARGO) run --release --package compare
@@ -50,16 +61,21 @@ compare-long: lib
 # The desk program.
 desk: lib
 	@cd host && $(CARGO) build --release --package desk
-	@cp host/target/release/desk dist/desk
+	@cp $(BUILT)/desk dist/desk
 
 # Some million damaged scripts and sound files; the gate tries some thousand.
 damaged-long: lib
 	@cd host && DAMAGED=3000000 $(CARGO) test --release --package desk --test damaged -- --nocapture
 
 # Words a second, instructions a word and chips carried; callgrind counts the instructions.
+ifeq ($(FOR_X86_64),)
 bench: lib
 	@command -v valgrind >/dev/null || apt-get install --yes --quiet valgrind >/dev/null
 	@cd host && $(CARGO) run --release --package speed
+else
+bench:
+	@echo 'make bench measures on an x86-64 machine only: a measurement under an emulator says nothing' >&2; exit 1
+endif
 
 # Tries the must-fail edits and prints why each is refused.
 refusals:
