@@ -7,22 +7,41 @@
  * Each call lends them to the library for one event: so many words to run, a byte that
  * the host reads or writes, a serial word, an interrupt, a reset.
  *
- *     static uint32_t program[BEMULATSHO_WORDS];       read from the program EPROM
- *     static uint16_t rom[BEMULATSHO_CELLS];           read from the data ROM
- *     static uint16_t ram[BEMULATSHO_RAM];
- *     struct bemulatsho_registers registers = bemulatsho_fresh_registers();
+ *     static uint32_t program[BEMULATSHO_WORDS]; // from the program EPROM
+ *     static uint16_t rom[BEMULATSHO_CELLS];     // from the data ROM
+ *     static uint16_t ram[BEMULATSHO_RAM];       // at the start, what the caller wants
+ *     static struct bemulatsho_registers registers;
  *
- *     struct bemulatsho_event event = {BEMULATSHO_EVENT_SERIAL_IN, sample};
- *     struct bemulatsho_reply reply =
- *         bemulatsho_event_in_place(&registers, program, BEMULATSHO_WORDS, rom,
- *                                   BEMULATSHO_CELLS, ram, BEMULATSHO_RAM, event);
- *     if (reply.number != BEMULATSHO_DONE) {
- *         ...
+ *     static struct bemulatsho_reply give(uint32_t kind, uint32_t value)
+ *     {
+ *         struct bemulatsho_event event;
+ *         event.kind = kind;
+ *         event.value = value;
+ *         return bemulatsho_event_in_place(&registers, program, BEMULATSHO_WORDS, rom,
+ *                                          BEMULATSHO_CELLS, ram, BEMULATSHO_RAM, event);
  *     }
  *
- * Every call is answered; what cannot be done is refused by a number. "Refusal 2" is the
- * number 2 of enum bemulatsho_number. Numbers that end in H are hexadecimal. Bits count
- * from 0, the lowest. A mark or flag is 1 when its bool is true.
+ *     registers = bemulatsho_fresh_registers();
+ *     int16_t sample = -8192;
+ *     struct bemulatsho_reply reply = give(BEMULATSHO_EVENT_SERIAL_IN, (uint16_t)sample);
+ *     if (reply.number != BEMULATSHO_DONE) {
+ *         ...                                    // and so after every event
+ *     }
+ *     reply = give(BEMULATSHO_EVENT_RUN, 5);     // as many words as the program needs
+ *     reply = give(BEMULATSHO_EVENT_SERIAL_OUT, 0);
+ *     int16_t sent = (int16_t)reply.value;
+ *
+ * A sample is signed, the value of an event is not. A negative int16_t that is widened to
+ * uint32_t without the cast is FFFF8000H or more, no longer 0 to 65535: refusal 3. On the
+ * way out the cast gives the sign back; gcc and clang keep the 16 bits.
+ *
+ * Take the registers from bemulatsho_fresh_registers, and name the fields of a record, as
+ * above: a later version may add fields.
+ *
+ * Every call is answered if the caller keeps the duties that stand at
+ * bemulatsho_event_in_place; what cannot be done is refused by a number. "Refusal 2" is
+ * the number 2 of enum bemulatsho_number. Numbers that end in H are hexadecimal. Bits
+ * count from 0, the lowest. A mark or flag is 1 when its bool is true.
  */
 #ifndef BEMULATSHO_H
 #define BEMULATSHO_H
@@ -38,25 +57,29 @@ extern "C" {
 /* ---- version */
 
 /* The version that this header describes. It goes up when a caller has to change. */
-#define BEMULATSHO_VERSION 1
+#define BEMULATSHO_VERSION 1u
 
 /* The version of the library. Compare it with BEMULATSHO_VERSION once, at the start. */
 uint32_t bemulatsho_version(void);
 
-/* ---- sizes of the chip */
+/* ---- sizes of the chip, unsigned */
 
-#define BEMULATSHO_WORDS 512           /* instruction words of a program */
-#define BEMULATSHO_WORD_LIMIT 0x800000 /* a word has 23 bits: it is below this, 2^23 */
-#define BEMULATSHO_CELLS 512           /* data ROM cells; a masked part offers 510 */
-#define BEMULATSHO_CELL_LIMIT 8192     /* a cell has 13 bits: it is below this, 2^13 */
-#define BEMULATSHO_CELL_UNIT 8         /* a cell goes on the bus times this */
-#define BEMULATSHO_RAM 128             /* RAM cells, of 16 bits each */
-#define BEMULATSHO_STACK 4             /* stack cells */
+#define BEMULATSHO_WORDS 512u           /* instruction words of a program */
+#define BEMULATSHO_WORD_LIMIT 0x800000u /* a word has 23 bits: it is below this, 2^23 */
+#define BEMULATSHO_CELLS 512u           /* data ROM cells; a masked part offers 510 */
+#define BEMULATSHO_CELL_LIMIT 8192u     /* a cell has 13 bits: it is below this, 2^13 */
+#define BEMULATSHO_CELL_UNIT 8u         /* a cell goes on the bus times this */
+#define BEMULATSHO_RAM 128u             /* RAM cells, of 16 bits each */
+#define BEMULATSHO_STACK 4u             /* stack cells */
 
 /*
  * A program is an array of uint32_t, word n at place n, the word in the low 23 bits. A
  * data ROM is an array of uint16_t, the cell in the low 13 bits. A larger number may
  * stand in either; it is refused when it is used (refusals 4 and 7), and not before.
+ *
+ * A RAM is an array of uint16_t, cell n at place n. What it holds at the start is the
+ * caller's choice, all 0 or a preset: the manual does not say what the chip's holds at
+ * power-up. Only words with DST MEM change it; no event clears it, not even a reset.
  */
 
 /* ---- registers */
@@ -83,8 +106,12 @@ struct bemulatsho_both_flags {
 /*
  * The machine record. The caller may read and set every field between calls; a record
  * that the chip could not hold is refused at the next call, as said at each field. PC and
- * the stack cells count words, DP points at RAM, RP at data ROM. The record has no
- * padding: two may be compared by memcmp.
+ * the stack cells count words, DP points at RAM, RP at data ROM.
+ *
+ * Take a record from bemulatsho_fresh_registers and set its fields by name; in C,
+ * designated initialisers do as well, since what they do not name is 0. Never fill a
+ * record by position: a later version may add fields or put them in another order. The
+ * record has no padding: two may be compared by memcmp.
  */
 struct bemulatsho_registers {
     uint16_t pc;     /* PC, 9 bits: the word to run next. 512 or more: refusal 2 */
@@ -135,7 +162,10 @@ struct bemulatsho_registers bemulatsho_fresh_registers(void);
 /* The kinds of an event. Any other kind, or a value not allowed here: refusal 3. */
 enum bemulatsho_kind {
     /* value 0 to 65535: run value words from PC on, or those before the first that is
-       refused. The reply's words says how many were finished. */
+       refused. The reply's words says how many were finished. A run of 0 words looks at
+       no word, changes nothing and is answered 0 with words 0. Lengths and record are
+       tested as for every event (refusals 1 and 2): so a caller can ask whether a record
+       is acceptable. */
     BEMULATSHO_EVENT_RUN = 0,
     /* value 0: host reads data. The reply's value is a byte of DR. With DRC 0 the low
        byte goes first (DRS 0) and sets DRS; the high byte (DRS 1) clears DRS and RQM.
@@ -147,16 +177,16 @@ enum bemulatsho_kind {
     /* value 0: host reads status: the high byte of SR is the reply's value. */
     BEMULATSHO_EVENT_HOST_STATUS = 3,
     /* value 0 to 65535: serial word in: SI takes the value, SIACK set. A word that was
-       not read is lost. */
+       not read is lost. Give a signed sample as (uint16_t)sample. */
     BEMULATSHO_EVENT_SERIAL_IN = 4,
     /* value 0: serial word out: hands SO, clears SORQ, sets SOACK. SO is the reply's
-       value. SORQ 0: refusal 10. */
+       value; a signed sample is (int16_t) of it. SORQ 0: refusal 10. */
     BEMULATSHO_EVENT_SERIAL_OUT = 5,
     /* value 0: interrupt edge: if EI is 1, push PC, go to 100H, clear EI; if 0, nothing.
        It counts no words. EI 1 at depth 4: refusal 9. */
     BEMULATSHO_EVENT_INTERRUPT = 6,
-    /* value 0: reset: PC, depth, flags, SR, SORQ, SIACK, SOACK to 0. The other registers,
-       the stack cells and RAM stay. */
+    /* value 0: reset: PC, depth, flags, SR, SORQ, SIACK, SOACK to 0. It leaves A, B, K,
+       L, TR, DR, SI, SO, DP, RP, the four stack cells and RAM. */
     BEMULATSHO_EVENT_RESET = 7
 };
 
@@ -168,9 +198,10 @@ struct bemulatsho_event {
 /* ---- replies */
 
 /*
- * The number of a reply: 0, or the refusal. Each is given exactly when its line says;
- * where several apply, the lowest. An event call gives 0 to 10, bemulatsho_take_apart 0
- * or 4, bemulatsho_build 0 or 11.
+ * The number of an answer: 0 done, else the refusal. It is one numbering with two names:
+ * number in bemulatsho_reply, refusal in bemulatsho_taken_rows and bemulatsho_built. Each
+ * is given exactly when its line says; where several apply, the lowest. An event call
+ * gives 0 to 10, bemulatsho_take_apart 0 or 4, bemulatsho_build 0 or 11.
  */
 enum bemulatsho_number {
     /* done */
@@ -181,7 +212,8 @@ enum bemulatsho_number {
     /* PC, a stack cell, DP or RP too wide, depth over 4, or SR bits 6 to 2 not 0. All
        four stack cells count, at any depth. Every kind is refused, also a reset. */
     BEMULATSHO_REFUSED_REGISTERS = 2,
-    /* event kind over 7, or value not allowed */
+    /* event kind over 7, or value not allowed. A negative sample that was widened without
+       (uint16_t) is not allowed. */
     BEMULATSHO_REFUSED_EVENT = 3,
     /* fetched word 2^23 or more (also when one is taken apart) */
     BEMULATSHO_REFUSED_WORD = 4,
@@ -203,7 +235,8 @@ enum bemulatsho_number {
 };
 
 struct bemulatsho_reply {
-    uint8_t number; /* enum bemulatsho_number */
+    uint8_t number; /* enum bemulatsho_number: 0 done, else the refusal. The numbering is
+                       that of refusal in bemulatsho_taken_rows and bemulatsho_built */
     uint16_t words; /* words finished by a run, also by one that is refused; else 0 */
     uint16_t value; /* what kinds 1, 3 and 5 hand; 0 for the others and when refused */
 };
@@ -217,17 +250,22 @@ struct bemulatsho_reply {
  * event. Words that a run finished before the refused one stay done and are counted in
  * words; PC is at the refused word, and a second run would be refused there again.
  *
- * A length counts elements, not bytes. As many elements as it says must be there; the
- * call touches none beyond. A length that is not the chip's is refusal 1.
+ * A length counts elements, not bytes; the call touches none beyond it. A length that is
+ * not the chip's is refusal 1.
  *
  * Everything is lent until the call returns. The library keeps no pointer and no state
- * between calls and allocates nothing. The caller sees to the following, which the call
- * cannot check:
+ * between calls and allocates nothing. A call takes less than 1 KiB of stack; that was
+ * read from the compiled code of this version and is no part of the proof.
+ *
+ * The caller's duties, which the call cannot check:
+ * - As many elements are there as each length says.
  * - No pointer is null, not even with length 0, and each is aligned for its type.
  * - The record and the RAM can be written, even if the call is refused.
  * - Each bool of the record is 0 or 1. Mind records that were read from a file.
  * - The record and the RAM overlap neither each other nor the program nor the data ROM.
  * - While the call runs, nobody else touches record or RAM, or writes to the images.
+ * Where one of these is not kept, nothing is promised, of this call or of any later one.
+ * Of a bool that is neither 0 nor 1 the low bit is read today; do not rely on it.
  *
  * Calls on different records with different RAMs may run at the same time. They may share
  * a program and a data ROM.
@@ -262,15 +300,17 @@ enum bemulatsho_row {
  * SHL1 take in the other accumulator's C. CMP is the ones' complement, SHR1 keeps the
  * sign, SHL2 and SHL4 bring in ones, XCHG changes the bytes round.
  *
- * SRC 0 to 15: none, A, B, TR, DP, RP, RO, SGN, DR, DRNF, SR, SIM, SIL, K, L, MEM. RO is
- * the data ROM cell at RP times 8. SGN is 7FFFH if A's S1 is 1, else 8000H. DR sets RQM,
- * DRNF is DR without that. SIM is SI, SIL is SI with all 16 bits reversed; both clear
- * SIACK. MEM is RAM at DP.
+ * SRC 0 to 15: none, A, B, TR, DP, RP, RO, SGN, DR, DRNF, SR, SIM, SIL, K, L, MEM. DP and
+ * RP stand in the low 7 and 9 bits of the bus, with zeros above. RO is 8 times the data
+ * ROM cell at RP. SGN is 7FFFH if A's S1 is 1, else 8000H. DR sets RQM, DRNF is DR
+ * without that. SIM is SI, SIL is SI with all 16 bits reversed; both clear SIACK. MEM is
+ * RAM at DP.
  *
  * DST 0 to 15: none, A, B, TR, DP, RP, DR, SR, SOL, SOM, K, KLR, KLM, L, none, MEM. DP
  * and RP take the bus's low bits. DR sets RQM. SOM stores the bus in SO, SOL the bus
  * reversed; both set SORQ and clear SOACK. KLR: K from the bus, L as RO. KLM: L from the
- * bus, K from RAM at DP with bit 6 set to 1. MEM: RAM at DP.
+ * bus, K from the RAM cell whose address is DP with bit 6 set to 1, one of 64 to 127. It
+ * is the address that has the bit set, not the value and not DP. MEM: RAM at DP.
  */
 struct bemulatsho_op_fields {
     uint8_t psel;  /* D20-19, P-select, operand of ALU 1 to 7: 0 RAM at DP, 1 bus, 2 M,
@@ -319,12 +359,12 @@ struct bemulatsho_rows {
 };
 
 struct bemulatsho_taken_rows {
-    uint8_t refusal; /* 0 or 4 */
+    uint8_t refusal; /* enum bemulatsho_number, as number in a reply: 0 done, else 4 */
     struct bemulatsho_rows rows;
 };
 
 struct bemulatsho_built {
-    uint8_t refusal; /* 0 or 11 */
+    uint8_t refusal; /* enum bemulatsho_number, as number in a reply: 0 done, else 11 */
     uint32_t bits;   /* the word */
 };
 
@@ -341,7 +381,21 @@ struct bemulatsho_taken_rows bemulatsho_take_apart(uint32_t word);
  */
 struct bemulatsho_built bemulatsho_build(struct bemulatsho_rows rows);
 
-/* ---- layout: the bytes that the library expects; padding means nothing */
+/* ---- layout: the bytes that the library expects */
+
+/*
+ * Padding, by the offsets below:
+ *
+ *     flags, both_flags, registers, event, op_fields, ldi_fields    none
+ *     reply         1 byte after number
+ *     jp_fields     1 byte at the end
+ *     rows          1 byte before jp, besides that of jp
+ *     taken_rows    1 byte after refusal, besides those of rows
+ *     built         3 bytes after refusal
+ *
+ * Padding means nothing and may hold anything. Records of a kind without padding may be
+ * compared by memcmp; the others field by field.
+ */
 
 #ifdef __cplusplus
 #define BEMULATSHO_HOLDS(what) static_assert(what, #what)

@@ -120,7 +120,9 @@ static void give_back(struct machine m)
 
 static struct bemulatsho_reply call(struct machine m, uint32_t kind, uint32_t value)
 {
-    struct bemulatsho_event event = {kind, value};
+    struct bemulatsho_event event;
+    event.kind = kind;
+    event.value = value;
     return bemulatsho_event_in_place(m.registers, m.program, m.program_length, m.rom, m.rom_length, m.ram, m.ram_length,
                                      event);
 }
@@ -153,7 +155,8 @@ static bool same_state(struct machine m, const struct state *s)
 /* Every register at a value of its own, so that a change of any shows. */
 static void fill_registers(struct bemulatsho_registers *r)
 {
-    struct bemulatsho_flags set = {true, true, true, true, true, true};
+    struct bemulatsho_flags set;
+    set.s1 = set.s0 = set.c = set.z = set.ov1 = set.ov0 = true;
     r->pc = 0x1FF;
     r->stack0 = 0x101;
     r->stack1 = 0x102;
@@ -338,6 +341,23 @@ static void word_0(void)
     give_back(m);
 }
 
+static void run_of_0_words(void)
+{
+    /* no word is looked at, not even one that would be refused; lengths and record are tested all the same */
+    struct machine m = lend_machine();
+    fill_registers(m.registers);
+    fill_ram(m);
+    m.program[m.registers->pc] = BEMULATSHO_WORD_LIMIT;
+    struct state expected = state_of(m);
+    REPLY(call(m, BEMULATSHO_EVENT_RUN, 0), BEMULATSHO_DONE, 0, 0);
+    CHECK(same_state(m, &expected));
+    REFUSED(m, BEMULATSHO_EVENT_RUN, 1, BEMULATSHO_REFUSED_WORD);
+    m.registers->pc = 512;
+    REFUSED(m, BEMULATSHO_EVENT_RUN, 0, BEMULATSHO_REFUSED_REGISTERS);
+    free(expected.ram);
+    give_back(m);
+}
+
 static void jump_and_load(void)
 {
     /* case 2 */
@@ -475,6 +495,30 @@ static void serial_in(void)
     expected.registers.siack = true;
     CHECK(same_state(m, &expected));
     free(expected.ram);
+    give_back(m);
+}
+
+static void signed_samples(void)
+{
+    /* (uint16_t) on the way in, (int16_t) on the way out; in between SRC SIM (11), DST SOM (9) */
+    static const int16_t samples[] = {-32768, -2, -1, 0, 1, 32767};
+    static const uint16_t words[] = {0x8000, 0xFFFE, 0xFFFF, 0, 1, 0x7FFF};
+    struct machine m = lend_machine();
+    for (size_t i = 0; i < BEMULATSHO_WORDS; i++)
+        m.program[i] = 0x0000B9;
+    for (size_t i = 0; i < sizeof samples / sizeof *samples; i++) {
+        int16_t sample = samples[i];
+        REPLY(call(m, BEMULATSHO_EVENT_SERIAL_IN, (uint16_t)sample), 0, 0, 0);
+        CHECK(m.registers->si == words[i] && m.registers->siack);
+        REPLY(call(m, BEMULATSHO_EVENT_RUN, 1), 0, 1, 0);
+        struct bemulatsho_reply reply = call(m, BEMULATSHO_EVENT_SERIAL_OUT, 0);
+        REPLY(reply, 0, 0, words[i]);
+        CHECK((int16_t)reply.value == sample);
+
+        /* widened without the cast: a negative one is FFFF8000H or more */
+        if (sample < 0)
+            REFUSED(m, BEMULATSHO_EVENT_SERIAL_IN, (uint32_t)sample, BEMULATSHO_REFUSED_EVENT);
+    }
     give_back(m);
 }
 
@@ -704,6 +748,7 @@ int main(void)
     take_apart();
     build();
     word_0();
+    run_of_0_words();
     jump_and_load();
     three_adds();
     sum_out_of_range();
@@ -712,6 +757,7 @@ int main(void)
     host_writes();
     host_reads_status();
     serial_in();
+    signed_samples();
     serial_out();
     interrupt();
     reset();
