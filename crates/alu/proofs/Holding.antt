@@ -9,13 +9,14 @@ use borrow.Author.Tests.{ltb-true, ltb-false, leb-true, leb-false}
 use lib.Dec.{ltb, leb}
 use lib.IntN.{ℤ, pos, negsuc, _+ℤ_, +ℤ-idr}
 use lib.ListN.{length}
-use Rattle.numbers.specs.Signed.{signed, held}
+use Rattle.numbers.specs.Signed.{signed}
+use Rattle.numbers.specs.Held.{held}
 use Rattle.numbers.proofs.Whole.{up, down, ud-add, ud-eq}
 use Rattle.numbers.proofs.Signed.{ud-signed, leaves-biased}
 use Rattle.numbers.proofs.Held.{held-below, held-above, held-within}
 use Rattle.alu.specs.Flags.{s0Of, ov0Of, sgnOf, sumFlags}
 use Rattle.alu.specs.Operations.{plus}
-use Rattle.alu.specs.Sums.{summed, wholeSum, answerOf, SumsHeld}
+use Rattle.alu.specs.Answer.{answer}
 use Rattle.alu.specs.declared.Accumulator.{Accumulator}
 use Rattle.alu.proofs.Sums.{sum-biased}
 use Rattle.alu.proofs.Wrapped.{Landed, inside, high, low, Told, exact, over, under, far-over, far-under, told-on}
@@ -69,24 +70,36 @@ module _ (t : ℤ) where
   same v h = ud-eq v t (omega arith) ∙ sym (held-within (negsuc 32767) (pos 32767) t (omega arith) (omega arith))
 
   -- SGN is the end of the range beyond which the flags tell that the sum is
-  answered : (value : ℕ) {ov1 s1 : Bool} → Told 32768 t (signed value) ov1 s1 → signed (cond ov1 (sgnOf s1) value) ≡ within16
-  answered value (exact a) = same (signed value) a
-  answered value (over a) = unfold signed in sym (beyond (a .0))
-  answered value (under a) = unfold signed in sym (beneath (a .0))
-  answered value (far-over a) = unfold signed in sym (beyond (omega arith))
-  answered value (far-under a) = unfold signed in sym (beneath (omega arith))
+  told-answer : (value : ℕ) {ov1 s1 : Bool} → Told 32768 t (signed value) ov1 s1 → signed (cond ov1 (sgnOf s1) value) ≡ within16
+  told-answer value (exact a) = same (signed value) a
+  told-answer value (over a) = unfold signed in sym (beyond (a .0))
+  told-answer value (under a) = unfold signed in sym (beneath (a .0))
+  told-answer value (far-over a) = unfold signed in sym (beyond (omega arith))
+  told-answer value (far-under a) = unfold signed in sym (beneath (omega arith))
+
+-- the operands ys added one after the other
+unfoldable pub summed : Accumulator → List ℕ → Accumulator
+summed a [] = a
+summed a (y ∷ ys) = summed (plus a y 0) ys
+
+-- the whole number that no width holds back
+unfoldable pub wholeSum : ℤ → List ℕ → ℤ
+wholeSum z [] = z
+wholeSum z (y ∷ ys) = wholeSum (z +ℤ signed y) ys
 
 -- the whole sum is within three half ranges before each sum: the sums to come are what is left of four
 sums-on : (ys : List ℕ) (a : Accumulator) (t : ℤ) → Tells t a → down t + length ys * 32768 ≤ up t + 131072 → up t + length ys * 32768 < down t + 131072
-    → answerOf (summed a ys) ≡ held (negsuc 32767) (pos 32767) (wholeSum t ys)
-unfolding summed wholeSum answerOf
-sums-on [] a t k l h = answered t (a .value) k
+    → answer (summed a ys) ≡ held (negsuc 32767) (pos 32767) (wholeSum t ys)
+unfolding summed wholeSum answer
+sums-on [] a t k l h = told-answer t (a .value) k
 sums-on (y ∷ ys) a t k l h =
     let s = ud-signed y in
     let u = ud-add t (signed y) in
     sums-on ys (plus a y 0) (t +ℤ signed y) (tells-on a y t (omega arith) (omega arith) k) (omega arith) (omega arith)
 
-pub sums-held : SumsHeld
+-- from OV1 0, after at most three sums, the answer is the whole sum held within -32768 to 32767
+pub sums-held : (a : Accumulator) (ys : List ℕ) → a .flags .ov1 ≡ false → length ys ≤ 3
+    → answer (summed a ys) ≡ held (negsuc 32767) (pos 32767) (wholeSum (signed (a .value)) ys)
 sums-held a ys e n =
     let s = ud-signed (a .value) in
     sums-on ys a (signed (a .value)) (rw e (exact (omega arith))) (omega arith) (omega arith)

@@ -1,4 +1,5 @@
 pub mod Sums
+pub mod Coded
 pub mod Plans
 pub mod Wrapped
 pub mod Holding

@@ -43,14 +43,9 @@ sgnOf s1 = cond s1 0x7fff 0x8000
 -- the flags after SUB, ADD, SBB, ADC, DEC or INC: the flags before, the result kept to 16 bits, its C and its OV0
 unfoldable pub sumFlags : Flags → ℕ → Bool → Bool → Flags
 sumFlags before result c ov0 =
-    record {
-      s1 = s1Of (before .ov1) (before .s1) (s0Of result);
-      s0 = s0Of result;
-      c = c;
-      z = zOf result;
-      ov1 = ov1Of (before .ov1) (before .s1) (s0Of result) ov0;
-      ov0 = ov0;
-    }
+    let s1 = s1Of (before .ov1) (before .s1) (s0Of result) in
+    let ov1 = ov1Of (before .ov1) (before .s1) (s0Of result) ov0 in
+    record { s1 = s1; s0 = s0Of result; c = c; z = zOf result; ov1 = ov1; ov0 = ov0 }
 
 -- "Every other operation but none clears OV0 and OV1 and sets S1 to S0"
 abbrev pub otherFlags : ℕ → Bool → Flags

@@ -1,3 +1,3 @@
 pub mod Flags
 pub mod Operations
-pub mod Sums
+pub mod Answer

@@ -22,6 +22,9 @@ operations = None ∷ Or ∷ And ∷ Xor ∷ Sub ∷ Add ∷ Sbb ∷ Adc ∷ Dec
 abbrev pub operationOf : ℕ → Operation
 operationOf code = getD operations code None
 
+abbrev pub operationCode : Operation → ℕ
+operationCode = elim [ None ↦ 0 | Or ↦ 1 | And ↦ 2 | Xor ↦ 3 | Sub ↦ 4 | Add ↦ 5 | Sbb ↦ 6 | Adc ↦ 7 | Dec ↦ 8 | Inc ↦ 9 | Cmp ↦ 10 | Shr1 ↦ 11 | Shl1 ↦ 12 | Shl2 ↦ 13 | Shl4 ↦ 14 | Xchg ↦ 15 ]
+
 -- "Sums are kept to 16 bits and wrap on purpose": the accumulator plus y plus a carry, and minus y minus a borrow
 unfoldable pub plus : Accumulator → ℕ → ℕ → Accumulator
 plus a y k =
@@ -39,32 +42,8 @@ minus a y k =
 abbrev pub other : ℕ → Bool → Accumulator
 other result c = record { value = result; flags = otherFlags result c }
 
--- an operation on the accumulator a with the operand p; c is the other accumulator's C
-unfoldable pub operated : Operation → Accumulator → ℕ → Bool → Accumulator
-operated None a p c = a
-operated Or a p c = other (bitOr (a .value) p) false
-operated And a p c = other (bitAnd (a .value) p) false
-operated Xor a p c = other (bitXor (a .value) p) false
-operated Sub a p c = minus a p 0
-operated Add a p c = plus a p 0
--- "SBB and ADC take the other accumulator's C"
-operated Sbb a p c = minus a p (boolByte c)
-operated Adc a p c = plus a p (boolByte c)
-operated Dec a p c = minus a 1 0
-operated Inc a p c = plus a 1 0
--- "CMP (ones' complement)"
-operated Cmp a p c = other (65535 - a .value) false
--- "C is the bit shifted out for SHR1 (sign kept) and SHL1 (the other accumulator's C comes in), and 0 for the rest"
-operated Shr1 a p c = other (kept16 (floorDiv (signed (a .value)) 2)) (eqb (a .value % 2) 1)
-operated Shl1 a p c = other (a .value * 2 % 65536 + boolByte c) (s0Of (a .value))
--- "SHL2 and SHL4 bring in ones"
-operated Shl2 a p c = other (a .value * 4 % 65536 + 3) false
-operated Shl4 a p c = other (a .value * 16 % 65536 + 15) false
--- "XCHG (bytes)"
-operated Xchg a p c = other (a .value % 256 * 256 + a .value / 256) false
-
--- What the operation makes of its inputs: nothing, a sum, a difference, or a result with its C. The code goes this way;
--- alu/proofs/Plans.antt has the law that it is the same.
+-- What an operation makes of the accumulator's value x and the operand p: nothing, a sum, a difference, or another result with its C; c is
+-- the other accumulator's C.
 abbrev pub planOf : Operation → ℕ → ℕ → Bool → Plan
 planOf None x p c = Keep
 planOf Or x p c = Other (bitOr x p) false
@@ -72,15 +51,20 @@ planOf And x p c = Other (bitAnd x p) false
 planOf Xor x p c = Other (bitXor x p) false
 planOf Sub x p c = Minus p false
 planOf Add x p c = Plus p false
+-- "SBB and ADC take the other accumulator's C"
 planOf Sbb x p c = Minus p c
 planOf Adc x p c = Plus p c
 planOf Dec x p c = Minus 1 false
 planOf Inc x p c = Plus 1 false
+-- "CMP (ones' complement)"
 planOf Cmp x p c = Other (65535 - x) false
+-- "C is the bit shifted out for SHR1 (sign kept) and SHL1 (the other accumulator's C comes in), and 0 for the rest"
 planOf Shr1 x p c = Other (kept16 (floorDiv (signed x) 2)) (eqb (x % 2) 1)
 planOf Shl1 x p c = Other (x * 2 % 65536 + boolByte c) (s0Of x)
+-- "SHL2 and SHL4 bring in ones"
 planOf Shl2 x p c = Other (x * 4 % 65536 + 3) false
 planOf Shl4 x p c = Other (x * 16 % 65536 + 15) false
+-- "XCHG (bytes)"
 planOf Xchg x p c = Other (x % 256 * 256 + x / 256) false
 
 abbrev pub carriedOut : Plan → Accumulator → Accumulator
@@ -88,3 +72,7 @@ carriedOut Keep a = a
 carriedOut (Plus y c) a = plus a y (boolByte c)
 carriedOut (Minus y c) a = minus a y (boolByte c)
 carriedOut (Other value c) a = other value c
+
+-- an operation on the accumulator a with the operand p
+unfoldable pub operated : Operation → Accumulator → ℕ → Bool → Accumulator
+operated operation a p c = carriedOut (planOf operation (a .value) p c) a

@@ -5,7 +5,7 @@ ghost use mir.Val.{boolByte};
 ghost use lib.IntN.{pos, _+ℤ_, _-ℤ_};
 ghost use Rattle.numbers.specs.Signed.{signed, kept16, floorDiv};
 ghost use Rattle.alu.specs.Flags.{carryOf, borrowOf, ov0Of, sumFlags};
-ghost use Rattle.alu.specs.Operations.{operationOf, plus, minus, other, planOf, operated};
+ghost use Rattle.alu.specs.Operations.{operationOf, plus, minus, other, planOf};
 
 #[repr(C)]
 pub struct Flags {
@@ -203,18 +203,5 @@ impl Plan {
             Operation::Shl4 => Plan::Other((x << 4) + 15, false),
             Operation::Xchg => Plan::Other(x % 256 * 256 + x / 256, false),
         }
-    }
-}
-
-// An operation on the accumulator a with the operand p; c is the other accumulator's C.
-pub fn operate(operation: Operation, a: Accumulator, p: u16, c: bool) -> Accumulator
-    ensures { λ r. ⌜ r ≡ operated operation a p c ⌝ }
-{
-    let plan = Plan::of(operation, a.value, p, c);
-    match plan {
-        Plan::Keep => a,
-        Plan::Plus(y, carry) => add(a, y, carry),
-        Plan::Minus(y, borrow) => subtract(a, y, borrow),
-        Plan::Other(value, carry) => other_result(value, carry),
     }
 }

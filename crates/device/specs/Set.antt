@@ -1,4 +1,4 @@
--- The register record with one register changed. Made by tools/setters from src/registers.rt.
+-- The register record with one register changed; proofs/Set.antt has a law for each. Made by tools/setters from src/registers.rt.
 use Prim.Native.Nat.{ℕ}
 use mathlib.Core.Bool.{Bool}
 use Rattle.alu.specs.declared.Flags.{Flags}

@@ -1,6 +1,7 @@
 // Three pointers of three types: none can be taken for another. Each is held wider than the chip does, so that "too wide" can be said.
 ghost use mathlib.Core.Path.{_≡_};
 ghost use Rattle.device.specs.Device.{upd77p20};
+ghost use Rattle.device.specs.Lent.{wordAt};
 ghost use Rattle.device.specs.Pointers.{addressFits, ramPointerFits, romPointerFits, nextAddress, romPointerDown, lowAfter, ramPointerMoved, ramPointerOf, romPointerOf};
 use crate::sizes::Upd77p20;
 
@@ -28,6 +29,14 @@ impl InstructionAddress {
         ensures { λ r. ⌜ r ≡ nextAddress upd77p20 self ⌝ }
     {
         InstructionAddress(std::num::wrapping_add_u16(self.0, 1) % Upd77p20::WORDS)
+    }
+
+    // The word there; 0 beyond the program's end.
+    pub fn word(self, program: &[u32]) -> u32
+        ensures { λ r. ⌜ r ≡ wordAt (now (program .entry)) self ⌝ }
+    {
+        let at = self.0 as usize;
+        if at < program.len() { program[at] } else { 0 }
     }
 }
 

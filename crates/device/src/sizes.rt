@@ -1,8 +1,6 @@
 // The uPD77P20, the EPROM version of the uPD7720A: its sizes stand here and nowhere else.
 ghost use mathlib.Core.Path.{_≡_};
-ghost use mathlib.Core.Bool.{_&&_};
-ghost use lib.Dec.{ltb, eqb};
-ghost use Rattle.device.specs.Device.{upd77p20, wordLimit, cellLimit, cellValue};
+ghost use Rattle.device.specs.Device.{upd77p20, lengthsFit, cellValue};
 
 pub struct Upd77p20 {}
 
@@ -23,25 +21,11 @@ impl Upd77p20 {
 
     // Whether the two lent images and the lent RAM are as long as the chip's.
     pub fn lengths_fit(words: usize, cells: usize, ram: usize) -> bool
-        ensures { λ r. ⌜ r ≡ (eqb words (upd77p20 .words) && eqb cells (upd77p20 .cells) && eqb ram (upd77p20 .ram)) ⌝ }
+        ensures { λ r. ⌜ r ≡ lengthsFit upd77p20 words cells ram ⌝ }
     {
         (words == (Upd77p20::WORDS as usize))
             & (cells == (Upd77p20::CELLS as usize))
             & (ram == (Upd77p20::RAM as usize))
-    }
-
-    // Whether a number is an instruction word.
-    pub fn word_fits(word: u32) -> bool
-        ensures { λ r. ⌜ r ≡ ltb word (wordLimit upd77p20) ⌝ }
-    {
-        word < Upd77p20::WORD_LIMIT
-    }
-
-    // Whether a number is the content of a data ROM cell.
-    pub fn cell_fits(cell: u16) -> bool
-        ensures { λ r. ⌜ r ≡ ltb cell (cellLimit upd77p20) ⌝ }
-    {
-        cell < Upd77p20::CELL_LIMIT
     }
 
     // What a data ROM cell puts on the bus.

@@ -11,7 +11,8 @@ use mir.Val.{SFits}
 use Rattle.numbers.specs.Signed.{signed, floorDiv, floorMod, kept16}
 use Rattle.numbers.proofs.Whole.{up, down, abs-ud}
 use Rattle.numbers.proofs.Signed.{abs-signed, least-or-nearer, floor-split, floorMod-lt, kept-signed}
-use Rattle.multiplier.specs.Product.{product, mOf, BothLeast}
+use Rattle.multiplier.specs.Product.{product, mOf}
+use Rattle.multiplier.specs.BothLeast.{BothLeast}
 
 abs-neg : (n : ℕ) → natAbs (negℤ (pos n)) ≡ n
 abs-neg zero = refl

@@ -1,16 +1,11 @@
 -- M and N of K and L: 01, "One OP or RT word", "M is the signed product".
 use Prim.Native.Nat.{ℕ, _*_}
-use mathlib.Core.Path.{_≡_}
-use lib.IntN.{ℤ, negsuc, _*ℤ_}
+use lib.IntN.{ℤ, _*ℤ_}
 use Rattle.numbers.specs.Signed.{signed, floorDiv, floorMod, kept16}
 
 -- "the signed product K times L"
 unfoldable pub product : ℕ → ℕ → ℤ
 product k l = signed k *ℤ signed l
-
--- "both multiplier inputs at -32768"
-abbrev pub BothLeast : ℕ → ℕ → Type 0
-BothLeast k l = (signed k ≡ negsuc 32767) × (signed l ≡ negsuc 32767)
 
 -- "divided by 32768, rounded down, kept to 16 bits"
 unfoldable pub mOf : ℕ → ℕ → ℕ

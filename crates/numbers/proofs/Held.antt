@@ -8,7 +8,7 @@ use borrow.Author.Tests.{ltb-true, ltb-false}
 use lib.Dec.{ltb}
 use lib.IntN.{ℤ}
 use lib.Signed.{ltZ}
-use Rattle.numbers.specs.Signed.{held}
+use Rattle.numbers.specs.Held.{held}
 use Rattle.numbers.proofs.Whole.{up, down, ltZ-ud}
 
 pub data Holding (least most z : ℤ) : ℤ → Type 0 where

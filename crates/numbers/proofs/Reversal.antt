@@ -6,7 +6,7 @@ use native.Mathlib.Nat.{add-zero, add-suc, add-comm, add-mul, mul-assoc, mul-rig
 use native.Mathlib.Numerals.{one-add, add-one}
 use mathlib.Core.Path.{_≡_, refl, sym, ap, subst, _∙_}
 use lib.Pow.{pow-pos, pow-add, high, shr-shr, mod-pow-add}
-use Rattle.numbers.specs.Reversal.{bit, reversed, reversed16}
+use Rattle.numbers.specs.Reversal.{reversed, reversed16}
 
 pub reversed-lt : (n x : ℕ) → reversed n x < 2 ^ n
 unfolding reversed
@@ -38,6 +38,10 @@ reversed-above (suc n) k r = rw (even .0, even .1, reversed-above n k (r / 2))
   where
     even : ((k * 2 ^ suc n + r) % 2 ≡ r % 2) × ((k * 2 ^ suc n + r) / 2 ≡ k * 2 ^ n + r / 2)
     even = rw (pow-suc 2 n, ← mul-assoc k (2 ^ n) 2) (omega arith, omega arith)
+
+-- bit i of x, 0 or 1
+abbrev pub bit : ℕ → ℕ → ℕ
+bit x i = x / 2 ^ i % 2
 
 -- bit i of what is reversed is bit j of x, where i and j count from the two ends
 pub reversed-bit : (i j x : ℕ) → bit (reversed (suc (i + j)) x) i ≡ bit x j

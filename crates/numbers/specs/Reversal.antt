@@ -1,10 +1,6 @@
 -- The order of bits turned round.
 use Prim.Native.Nat.{ℕ, zero, suc, _+_, _*_, _/_, _%_, _^_}
 
--- bit i of x, 0 or 1
-abbrev pub bit : ℕ → ℕ → ℕ
-bit x i = x / 2 ^ i % 2
-
 -- the low `width` bits of x in reverse order: bit 0 becomes the top bit, and the bits above it follow below
 unfoldable pub reversed : ℕ → ℕ → ℕ
 reversed zero x = 0

@@ -28,7 +28,3 @@ floorMod (negsuc n) m = m - 1 - n % m
 -- "kept to 16 bits"
 abbrev pub kept16 : ℤ → ℕ
 kept16 z = floorMod z 65536
-
--- "held within" two ends: z, or the end that it is beyond
-unfoldable pub held : ℤ → ℤ → ℤ → ℤ
-held least most z = cond (ltZ z least) least (cond (ltZ most z) most z)

@@ -16,6 +16,7 @@ use Rattle.word.specs.Word.{wordOf, takenApart, wordHolds, wordBits, bui
 use Rattle.word.specs.declared.OpFields.{OpFields}
 use Rattle.word.specs.declared.JpFields.{JpFields}
 use Rattle.word.specs.declared.LdiFields.{LdiFields}
+use Rattle.word.specs.RoundTrip.{TakenThenBuilt, BuiltThenTaken, TakenRefused, BuiltRefused}
 use Rattle.word.specs.declared.Word.{Word}
 use Rattle.word.specs.declared.Word.the-variants.{Op, Rt, Jp, Ldi}
 
@@ -90,10 +91,10 @@ module _ (w : ℕ) (h : w < wordLimit upd77p20) where
       (λ e. rw e (row-fits ldi w, topped w 3 _ h e (row-back ldi w)))))
       (four (bits w 22 21) (omega arith))
 
-  -- building what was taken apart gives the word
-  pub taken-then-built : built (takenApart w .word) ≡ record { refusal = 0; bits = w }
-  unfolding takenApart built
-  taken-then-built = rw (lt-ltb w (wordLimit upd77p20) h, word-back .0, word-back .1)
+-- building what was taken apart gives the word
+pub taken-then-built : TakenThenBuilt
+unfolding takenApart built
+taken-then-built w h = rw (lt-ltb w (wordLimit upd77p20) h, word-back w h .0, word-back w h .1)
 
 -- ---- built, then taken apart
 
@@ -109,16 +110,16 @@ word-again (Jp f) h = let t = top-of 2 (jpBits f) (omega arith) (row-lt jp f h) 
 word-again (Ldi f) h = let t = top-of 3 (ldiBits f) (omega arith) (row-lt ldi f h) in (rw (t .0) (ap Ldi (row-again ldi f h 3)), t .1)
 
 -- taking apart what was built from fields that fit gives the fields
-pub built-then-taken : (word : Word) → wordHolds word ≡ true → takenApart (built word .bits) ≡ record { refusal = 0; word = word }
+pub built-then-taken : BuiltThenTaken
 unfolding takenApart built
 built-then-taken word h = let a = word-again word h in rw (h, lt-ltb (wordBits word) (wordLimit upd77p20) (a .1), a .0)
 
 -- ---- the answers to all other inputs
 
-pub taken-refused : (w : ℕ) → wordLimit upd77p20 ≤ w → takenApart w ≡ record { refusal = 4; word = Op (opFields 0) }
+pub taken-refused : TakenRefused
 unfolding takenApart
 taken-refused w h = rw (le-ltb w (wordLimit upd77p20) h)
 
-pub built-refused : (word : Word) → wordHolds word ≡ false → built word ≡ record { refusal = 11; bits = 0 }
+pub built-refused : BuiltRefused
 unfolding built
 built-refused word h = rw h

@@ -6,30 +6,22 @@ use Rattle.word.specs.declared.OpFields.{OpFields}
 use Rattle.word.specs.declared.JpFields.{JpFields}
 use Rattle.word.specs.declared.LdiFields.{LdiFields}
 
+-- "P-select 0 to 3: RAM, bus, M, N"
+abbrev pub select : record { ram : ℕ; bus : ℕ; m : ℕ; n : ℕ }
+select = record { ram = 0; bus = 1; m = 2; n = 3 }
+
+-- "BRCH 100 jumps, 101 calls .., 010 jumps on CND"
+abbrev pub branch : record { conditional : ℕ; jump : ℕ; call : ℕ }
+branch = record { conditional = 2; jump = 4; call = 5 }
+
 -- OP and RT: "P-select D20-19, ALU D18-15, ASL D14 (0 = A), DPL D13-12, DPH-M D11-9, RPDCR D8, SRC D7-4, DST D3-0"
 abbrev pub opFields : ℕ → OpFields
-opFields w =
-    record {
-      psel = bits w 20 19;
-      alu = bits w 18 15;
-      asl = bits w 14 14;
-      dpl = bits w 13 12;
-      dphm = bits w 11 9;
-      rpdcr = bits w 8 8;
-      src = bits w 7 4;
-      dst = bits w 3 0;
-    }
+opFields w = record { psel = bits w 20 19; alu = bits w 18 15; asl = bits w 14 14; dpl = bits w 13 12; dphm = bits w 11 9; rpdcr = bits w 8 8; src = bits w 7 4; dst = bits w 3 0 }
 
 abbrev pub opHolds : OpFields → Bool
 opHolds f =
-    holds 20 19 (f .psel)
-    && holds 18 15 (f .alu)
-    && holds 14 14 (f .asl)
-    && holds 13 12 (f .dpl)
-    && holds 11 9 (f .dphm)
-    && holds 8 8 (f .rpdcr)
-    && holds 7 4 (f .src)
-    && holds 3 0 (f .dst)
+    holds 20 19 (f .psel) && holds 18 15 (f .alu) && holds 14 14 (f .asl) && holds 13 12 (f .dpl) && holds 11 9 (f .dphm) && holds 8 8 (f .rpdcr)
+    && holds 7 4 (f .src) && holds 3 0 (f .dst)
 
 abbrev pub opBits : OpFields → ℕ
 opBits f = at 19 (f .psel) + at 15 (f .alu) + at 14 (f .asl) + at 12 (f .dpl) + at 9 (f .dphm) + at 8 (f .rpdcr) + at 4 (f .src) + f .dst

@@ -1,2 +1,4 @@
 pub mod Fields
 pub mod Word
+pub mod RoundTrip
+pub mod Unique

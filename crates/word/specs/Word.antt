@@ -18,10 +18,7 @@ wordOf w = getD (Op (opFields w) ∷ Rt (opFields w) ∷ Jp (jpFields w) ∷ [])
 
 -- refusal 4, "fetched word 2^23 or more (also when one is taken apart)": "the taker hands an OP word's fields, all 0, with 4"
 unfoldable pub takenApart : ℕ → Taken
-takenApart w =
-    cond (ltb w (wordLimit upd77p20))
-    (record { refusal = 0; word = wordOf w })
-    (record { refusal = 4; word = Op (opFields 0) })
+takenApart w = cond (ltb w (wordLimit upd77p20)) (record { refusal = 0; word = wordOf w }) (record { refusal = 4; word = Op (opFields 0) })
 
 -- every field is within its width
 unfoldable pub wordHolds : Word → Bool

@@ -2,7 +2,7 @@
 -- Assumes nothing.
 use Prim.Native.Nat.{_*_}
 use native.Mathlib.Omega.{arith}
-use mathlib.Core.Path.{_≡_, ap}
+use mathlib.Core.Path.{_≡_, sym, ap, subst}
 use lib.IntN.{ℤ, pos, natAbs, _-ℤ_, _*ℤ_}
 use lib.Signed.{shrZ}
 use mir.Syntax.{w32}
@@ -36,7 +36,7 @@ module _ (z : ℤ) (h : SFits w32 z) where
   whole = rw left (toZ-pos w32 (kept16 z) (omega (arith, kept16-lt z)))
 
 mul-result : tie.Need-mul-result
-mul-result c = rw (shr-back (c .args .z) 65536 (c .fits .z)) (multiple-fits (c .args .z) (c .fits .z))
+mul-result c = subst (λ q. SFits w32 (q *ℤ pos 65536)) (sym (shr-back (c .args .z) 65536 (c .fits .z))) (multiple-fits (c .args .z) (c .fits .z))
 
 sub-result : tie.Need-sub-result
 sub-result c = rw (left (c .args .z) (c .fits .z)) (record { sfits = omega (arith, kept16-lt (c .args .z)) })

@@ -1,0 +1,10 @@
+-- The contracts are equations with a definition.
+-- Assumes nothing.
+use mathlib.Core.Path.{_≡_, sym, _∙_}
+use Rattle.word.specs.Unique.{OneTaken, OneBuilt}
+
+pub one-taken : OneTaken
+one-taken w x y e₁ e₂ = e₁ ∙ sym e₂
+
+pub one-built : OneBuilt
+one-built word x y e₁ e₂ = e₁ ∙ sym e₂
