@@ -8,17 +8,19 @@ use mathlib.Core.List.{List, [], _∷_, _++_}
 use borrow.Author.Tests.{eqb-false}
 use lib.Dec.{eqb}
 use Rattle.alu.specs.Operations.{plus}
-use Rattle.alu.specs.Sums.{summed}
 use Rattle.alu.specs.declared.Accumulator.{Accumulator}
+use Rattle.alu.proofs.Holding.{summed}
 use Rattle.device.specs.declared.registers.Registers.{Registers}
 use Rattle.stages.specs.Accumulators.{accumulatorA}
 use Rattle.words.specs.Word.{wordDone}
 use Rattle.machine.specs.Events.{eventDone}
+use Rattle.machine.specs.Counting.{Finished, none, next}
 use Rattle.machine.proofs.Endings.{by-kinds}
-use Rattle.machine.proofs.Frames.{Untouched, event-refused}
-use Rattle.accuracy.specs.Every.{Every}
-use Rattle.accuracy.specs.Deeds.{Call, ended, after, Deed, word, event, wordAt, callDeeds, deeds}
-use Rattle.accuracy.specs.Listed.{Steps, none, next}
+use Rattle.machine.specs.Promises.{Untouched}
+use Rattle.machine.proofs.Frames.{event-refused}
+use Rattle.numbers.specs.Every.{Every}
+use Rattle.accuracy.specs.Deeds.{Call, ended, after, Deed, word, event, fetched, callDeeds, deeds}
+use Rattle.accuracy.specs.Listed.{wordDeeds}
 use Rattle.accuracy.specs.Adding.{addsM, added}
 use Rattle.accuracy.specs.Demand3.{NoReset, Unreset, NothingElse, Alone, Demand3}
 use Rattle.accuracy.proofs.Mix.{ms, mix-accurate}
@@ -36,19 +38,20 @@ Mixed r ds q = accumulatorA q ≡ mixed (accumulatorA r) ds
 
 -- ---- a run
 
-word-mixes : (r q : Registers) (program rom ram : List ℕ) (ds : List Deed) → wordDone r program rom ram .number ≡ 0 → NothingElse (word (wordAt r program) r)
-    → Mixed (wordDone r program rom ram .registers) ds q → Mixed r (word (wordAt r program) r ∷ ds) q
+word-mixes : (r q : Registers) (program rom ram : List ℕ) (ds : List Deed) → wordDone r program rom ram .number ≡ 0 → NothingElse (word (fetched r program) r)
+    → Mixed (wordDone r program rom ram .registers) ds q → Mixed r (word (fetched r program) r ∷ ds) q
 unfolding added summed
-word-mixes r q program rom ram ds done h rest = go (addsM (wordAt r program)) refl
+word-mixes r q program rom ram ds done h rest = go (addsM (fetched r program)) refl
   where
-    go : (t : Bool) → addsM (wordAt r program) ≡ t → accumulatorA q ≡ summed (accumulatorA r) (ms (cond t (record { k = r .k; l = r .l } ∷ added ds) (added ds)))
+    go : (t : Bool) → addsM (fetched r program) ≡ t → accumulatorA q ≡ summed (accumulatorA r) (ms (cond t (record { k = r .k; l = r .l } ∷ added ds) (added ds)))
     go true e = rest ∙ ap (λ a. mixed a ds) (word-adds r program rom ram done e)
     go false e = let n = h e in rest ∙ ap (λ a. mixed a ds) (word-leaves r program rom ram done (n .0) (n .1))
 
-steps-mix : {program rom : List ℕ} {r q : Registers} {ram left : List ℕ} {ds : List Deed} → Steps program rom r ram ds q left → Every NothingElse ds → Mixed r ds q
+words-mix : {program rom : List ℕ} {r q : Registers} {ram left : List ℕ} {found : List Registers} → Finished program rom found r ram q left
+    → Every NothingElse (wordDeeds program found) → Mixed r (wordDeeds program found) q
 unfolding added summed
-steps-mix none h = refl
-steps-mix (next {r = r} {q = q} {ram = ram} {ds = ds} done rest) h = word-mixes r q _ _ ram ds done (h .0) (steps-mix rest (h .1))
+words-mix none h = refl
+words-mix {program = program} (next {r = r} {q = q} {ram = ram} {found = found} done rest) h = word-mixes r q program _ ram (wordDeeds program found) done (h .0) (words-mix rest (h .1))
 
 -- ---- an event other than a run
 
@@ -72,7 +75,7 @@ call-mixes r c = go (c .kind) refl
         ap (λ x. accumulatorA (x .registers)) (subst (λ k. Untouched r (c .ram) (eventDone r (c .program) (c .rom) (c .ram) k (c .value))) (sym e) u n)
 
     go : (kind : ℕ) → c .kind ≡ kind → Every NoReset (callDeeds r c) → Every NothingElse (callDeeds r c) → Mixed r (callDeeds r c) (ended r c .registers)
-    go zero e h k = steps-mix (listed r c e) k
+    go zero e h k = let l = listed r c e in rw (l .listed) (words-mix (l .finished) (subst (Every NothingElse) (l .listed) k))
     go (suc kind) e h k = let d = other-deeds r c kind e in rw d (other kind e (eqb (ended r c .number) 0) refl (subst (Every NoReset) d h))
 
 -- ---- all calls

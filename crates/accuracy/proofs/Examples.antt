@@ -5,11 +5,12 @@ use native.Mathlib.Omega.{arith}
 use mathlib.Core.Path.{_≡_, refl, ap}
 use mathlib.Core.Bool.{true, false, true≢false}
 use lib.IntN.{pos, negsuc}
-use Rattle.numbers.specs.Signed.{signed, leaves, floorDiv, floorMod, held}
+use Rattle.numbers.specs.Signed.{signed, leaves, floorDiv, floorMod}
+use Rattle.numbers.specs.Held.{held}
 use Rattle.numbers.proofs.Whole.{down}
 use Rattle.alu.specs.Flags.{sumFlags}
 use Rattle.alu.specs.Operations.{plus, operated}
-use Rattle.alu.specs.Sums.{answerOf}
+use Rattle.alu.specs.Answer.{answer}
 use Rattle.multiplier.specs.Product.{product, mOf}
 use Rattle.device.specs.Registers.{freshRegisters, registersFit}
 use Rattle.device.specs.Pointers.{ramPointerMoved}
@@ -23,7 +24,8 @@ use Rattle.words.specs.Operation.{opWord}
 use Rattle.words.specs.Load.{ldiWord}
 use Rattle.words.specs.Word.{fetchedDone, wordDone}
 use Rattle.machine.specs.Run.{ran}
-use Rattle.machine.specs.Events.{reset, kindDone, eventDone}
+use Rattle.machine.specs.Events.{kindDone, eventDone}
+use Rattle.events.specs.Events.{reset}
 use Rattle.accuracy.specs.Exact.{in32768ths, products, heldSum}
 use Rattle.accuracy.specs.Deeds.{after, wordsOf, callDeeds, deeds}
 use Rattle.accuracy.specs.Adding.{added}
@@ -46,7 +48,7 @@ pub examples : Examples
 unfolding
     deeds callDeeds wordsOf added after eventDone kindDone ran reset wordDone fetchedDone takenApart wordOf opWord opRefusal ldiWord ldiRefusal readFrom accumulated
     operandOf operated plus sumFlags loaded ramLoaded pointed ramPointerMoved freshRegisters registersFit mOf product signed floorDiv floorMod leaves held heldSum
-    in32768ths products answerOf
+    in32768ths products answer
 examples = (
   -- Tight
   (refl, (tt, (tt, (tt, tt))), omega arith, (adds, (adds, (adds, tt))), (positive 1, (positive 1, (positive 1, tt))), refl, refl),

@@ -16,66 +16,69 @@ use Rattle.words.specs.Word.{wordDone}
 use Rattle.words.proofs.Frames.{word-refused}
 use Rattle.machine.specs.Replies.{Ending, refusedCall}
 use Rattle.machine.specs.Run.{ran}
-use Rattle.machine.specs.Events.{lengthsFit, allowed, kindDone, eventDone}
+use Rattle.machine.specs.Counting.{Finished, none, next}
+use Rattle.machine.specs.Events.{lentFit, kindDone, eventDone}
+use Rattle.events.specs.Events.{allowed}
 use Rattle.machine.proofs.Runs.{ran-none, ran-on, ran-refused}
-use Rattle.machine.proofs.Frames.{event-counts-none}
-use Rattle.accuracy.specs.Deeds.{Call, ended, Deed, word, event, wordAt, inFront, wordsOf, callDeeds, deeds}
-use Rattle.accuracy.specs.Listed.{Steps, none, next, Listed, wordsDone, wordsIn, Counted}
+use Rattle.machine.proofs.Frames.{counts-none}
+use Rattle.accuracy.specs.Deeds.{Call, ended, Deed, word, event, fetched, inFront, wordsOf, callDeeds, deeds}
+use Rattle.accuracy.specs.Listed.{wordDeeds, Listed, wordsDone, wordsIn, AsManyAsCounted}
 
 -- ---- a run
 
 module _ (program rom : List ℕ) where
-  -- a list leads to where the run ends, and a list has as many words as the run counts
-  abbrev Leads : ℕ → ℕ → Registers → List ℕ → List Deed → Type 0
-  Leads n words r ram ds = Steps program rom r ram ds (ran n words r program rom ram .registers) (ran n words r program rom ram .ram)
+  -- the deeds ds are words that finish from r and ram on to where e ends, and e counts them
+  record Leads (words : ℕ) (r : Registers) (ram : List ℕ) (e : Ending) (ds : List Deed) : Type 0 where
+    found : List Registers
+    listed : ds ≡ wordDeeds program found
+    finished : Finished program rom found r ram (e .registers) (e .ram)
+    counted : words + wordsIn ds ≡ e .words
 
-  abbrev Counts : ℕ → ℕ → Registers → List ℕ → List Deed → Type 0
-  Counts n words r ram ds = words + wordsIn ds ≡ ran n words r program rom ram .words
+  leads-nowhere : (words : ℕ) {number value : ℕ} (r : Registers) (ram : List ℕ) → Leads words r ram (record { number = number; words = words; value = value; registers = r; ram = ram }) []
+  unfolding wordsIn
+  leads-nowhere words r ram = record { found = []; listed = refl; finished = none; counted = omega arith }
 
-  run-listed : (n words : ℕ) (r : Registers) (ram : List ℕ) → Leads n words r ram (wordsOf n r program rom ram) × Counts n words r ram (wordsOf n r program rom ram)
+  run-listed : (n words : ℕ) (r : Registers) (ram : List ℕ) → Leads words r ram (ran n words r program rom ram) (wordsOf n r program rom ram)
   unfolding wordsOf wordsIn
-  run-listed zero words r ram = rw (ran-none words r program rom ram) (none, omega arith)
+  run-listed zero words r ram = rw (ran-none words r program rom ram) (leads-nowhere words r ram)
   run-listed (suc n) words r ram = go (eqb (o .number) 0) refl (wordsOf n (o .registers) program rom (o .ram)) (run-listed n (words + 1) (o .registers) (o .ram))
     where
       o : Outcome
       o = wordDone r program rom ram
 
-      go : (t : Bool) → eqb (o .number) 0 ≡ t → (more : List Deed)
-          → Leads n (words + 1) (o .registers) (o .ram) more × Counts n (words + 1) (o .registers) (o .ram) more
-          → Leads (suc n) words r ram (inFront t (word (wordAt r program) r) more) × Counts (suc n) words r ram (inFront t (word (wordAt r program) r) more)
+      go : (t : Bool) → eqb (o .number) 0 ≡ t → (more : List Deed) → Leads (words + 1) (o .registers) (o .ram) (ran n (words + 1) (o .registers) program rom (o .ram)) more
+          → Leads words r ram (ran (suc n) words r program rom ram) (inFront t (word (fetched r program) r) more)
       go true e more rest =
           let z = eqb-true (o .number) 0 e in
-          rw (ran-on n words r program rom ram z) (next z (rest .0), omega (arith, rest .1))
+          rw (ran-on n words r program rom ram z)
+          (record { found = r ∷ rest .found; listed = ap (λ ds. word (fetched r program) r ∷ ds) (rest .listed); finished = next z (rest .finished); counted = omega (arith, rest .counted) })
       go false e more rest =
           let h = eqb-false (o .number) 0 e in
           let u = word-refused r program rom ram h in
-          rw (ran-refused n words r program rom ram h, u .0, u .1) (none, omega arith)
+          rw (ran-refused n words r program rom ram h, u .0, u .1) (leads-nowhere words r ram)
 
 -- ---- a call
 
 -- a call of kind 0, accepted or refused as a whole
-call-listed : (r : Registers) (c : Call) → c .kind ≡ 0
-    → Steps (c .program) (c .rom) r (c .ram) (callDeeds r c) (ended r c .registers) (ended r c .ram) × (wordsIn (callDeeds r c) ≡ ended r c .words)
-unfolding callDeeds eventDone kindDone wordsIn
-call-listed r c e = rw e (go (lengthsFit (c .program) (c .rom) (c .ram)) (registersFit upd77p20 r) (allowed 0 (c .value)))
+call-listed : (r : Registers) (c : Call) → c .kind ≡ 0 → Leads (c .program) (c .rom) 0 r (c .ram) (ended r c) (callDeeds r c)
+unfolding callDeeds eventDone kindDone
+call-listed r c e = rw e (go (lentFit (c .program) (c .rom) (c .ram)) (registersFit upd77p20 r) (allowed 0 (c .value)))
   where
     run : Ending
     run = ran (c .value) 0 r (c .program) (c .rom) (c .ram)
 
-    listed : List Deed
-    listed = wordsOf (c .value) r (c .program) (c .rom) (c .ram)
+    deedsOfRun : List Deed
+    deedsOfRun = wordsOf (c .value) r (c .program) (c .rom) (c .ram)
 
-    tested : Bool → Bool → Bool → Ending
-    tested s t u = cond s (cond t (cond u run (refusedCall 3 r (c .ram))) (refusedCall 2 r (c .ram))) (refusedCall 1 r (c .ram))
-
-    go : (s t u : Bool) → Steps (c .program) (c .rom) r (c .ram) (cond (s && t && u) listed []) (tested s t u .registers) (tested s t u .ram) × (wordsIn (cond (s && t && u) listed []) ≡ tested s t u .words)
-    go true true true = let h = run-listed (c .program) (c .rom) (c .value) 0 r (c .ram) in (h .0, omega (arith, h .1))
-    go true true false = (none, refl)
-    go true false u = (none, refl)
-    go false t u = (none, refl)
+    go : (s t u : Bool) → Leads (c .program) (c .rom) 0 r (c .ram)
+        (cond s (cond t (cond u run (refusedCall 3 r (c .ram))) (refusedCall 2 r (c .ram))) (refusedCall 1 r (c .ram))) (cond (s && t && u) deedsOfRun [])
+    go true true true = run-listed (c .program) (c .rom) (c .value) 0 r (c .ram)
+    go true true false = leads-nowhere (c .program) (c .rom) 0 r (c .ram)
+    go true false u = leads-nowhere (c .program) (c .rom) 0 r (c .ram)
+    go false t u = leads-nowhere (c .program) (c .rom) 0 r (c .ram)
 
 pub listed : Listed
-listed r c e = call-listed r c e .0
+listed r c e = let l = call-listed r c e in record { found = l .found; listed = l .listed; finished = l .finished }
 
 -- a call of another kind
 pub other-deeds : (r : Registers) (c : Call) (kind : ℕ) → c .kind ≡ suc kind → callDeeds r c ≡ cond (eqb (ended r c .number) 0) (event (suc kind) ∷ []) []
@@ -87,10 +90,10 @@ unfolding wordsIn
 call-counted r c = go (c .kind) refl
   where
     go : (kind : ℕ) → c .kind ≡ kind → wordsIn (callDeeds r c) ≡ ended r c .words
-    go zero e = call-listed r c e .1
+    go zero e = omega (arith, call-listed r c e .counted)
     go (suc kind) e =
         ap wordsIn (other-deeds r c kind e) ∙ of-cond (λ ds. wordsIn ds ≡ 0) (eqb (ended r c .number) 0) refl refl
-        ∙ sym (ap (λ k. eventDone r (c .program) (c .rom) (c .ram) k (c .value) .words) e ∙ event-counts-none r (c .program) (c .rom) (c .ram) kind (c .value))
+        ∙ sym (ap (λ k. eventDone r (c .program) (c .rom) (c .ram) k (c .value) .words) e ∙ counts-none r (c .program) (c .rom) (c .ram) kind (c .value))
 
 -- ---- all calls
 
@@ -100,7 +103,7 @@ in-both [] es = omega arith
 in-both (word w r ∷ ds) es = omega (arith, in-both ds es)
 in-both (event kind ∷ ds) es = in-both ds es
 
-pub counted : Counted
+pub as-many-as-counted : AsManyAsCounted
 unfolding deeds wordsDone wordsIn
-counted r [] = refl
-counted r (c ∷ calls) = rw (in-both (callDeeds r c) (deeds (ended r c .registers) calls), call-counted r c, counted (ended r c .registers) calls)
+as-many-as-counted r [] = refl
+as-many-as-counted r (c ∷ calls) = rw (in-both (callDeeds r c) (deeds (ended r c .registers) calls), call-counted r c, as-many-as-counted (ended r c .registers) calls)

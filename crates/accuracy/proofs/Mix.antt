@@ -8,15 +8,16 @@ use mathlib.Core.Bool.{false}
 use mathlib.Core.List.{List, [], _∷_}
 use lib.IntN.{ℤ, pos, negsuc, _+ℤ_, _*ℤ_}
 use lib.ListN.{length}
-use Rattle.numbers.specs.Signed.{signed, held}
+use Rattle.numbers.specs.Signed.{signed}
+use Rattle.numbers.specs.Held.{held}
 use Rattle.numbers.proofs.Whole.{up, down, ud-add, ud-times, ud-pos, ud-le}
 use Rattle.numbers.proofs.Held.{Holding, below, above, within, holding}
-use Rattle.alu.specs.Sums.{summed, wholeSum, answerOf}
+use Rattle.alu.specs.Answer.{answer}
 use Rattle.alu.specs.declared.Accumulator.{Accumulator}
-use Rattle.alu.proofs.Holding.{sums-held}
+use Rattle.alu.proofs.Holding.{summed, wholeSum, sums-held}
 use Rattle.multiplier.specs.Product.{product, mOf}
 use Rattle.multiplier.proofs.Halves.{m-near}
-use Rattle.accuracy.specs.Every.{Every}
+use Rattle.numbers.specs.Every.{Every}
 use Rattle.accuracy.specs.Exact.{Inputs, in32768ths, products, least, most, heldSum, allowance, Accurate}
 use Rattle.accuracy.specs.Demand3.{NotBoth}
 
@@ -71,7 +72,7 @@ accurate start ps z h =
       near = ud-le x (y +ℤ pos (allowance ps)) (omega (arith, ud-times z 32768, ud-add y (pos (allowance ps)), ud-pos (allowance ps)));
     }
 
-pub mix-accurate : (a : Accumulator) (ps : List Inputs) → a .flags .ov1 ≡ false → length ps ≤ 3 → Every NotBoth ps → Accurate (a .value) ps (answerOf (summed a (ms ps)))
+pub mix-accurate : (a : Accumulator) (ps : List Inputs) → a .flags .ov1 ≡ false → length ps ≤ 3 → Every NotBoth ps → Accurate (a .value) ps (answer (summed a (ms ps)))
 unfolding heldSum
 mix-accurate a ps o n b =
     let v = signed (a .value) in

@@ -10,25 +10,28 @@ use borrow.Author.Tests.{eqb-true, eqb-false}
 use lib.Dec.{eqb}
 use Rattle.numbers.proofs.Choices.{of-cond}
 use Rattle.device.specs.Device.{upd77p20}
-use Rattle.device.specs.Lent.{cellAt}
+use Rattle.device.specs.Lent.{wordAt}
 use Rattle.device.specs.Pointers.{nextAddress}
 use Rattle.device.specs.declared.registers.Registers.{Registers}
+use Rattle.word.specs.Fields.{branch}
 use Rattle.word.specs.Word.{takenApart}
 use Rattle.word.specs.declared.OpFields.{OpFields}
 use Rattle.word.specs.declared.Word.{Word}
 use Rattle.word.specs.declared.Word.the-variants.{Op, Rt, Jp, Ldi}
 use Rattle.flow.specs.Conditions.{conditionHolds}
-use Rattle.stages.specs.Codes.{sourceOf}
+use Rattle.codes.specs.Codes.{sourceOf, destinationCode, isDestination}
 use Rattle.stages.specs.Pointing.{pointed}
-use Rattle.words.specs.Outcomes.{Outcome, refusedWord, finishedWord}
+use Rattle.codes.specs.declared.Destination.the-variants as Dst
+use Rattle.words.specs.Outcomes.{Outcome, refusedWord, finishedWord, decided}
 use Rattle.words.specs.Refusals.{opRefusal, jpRefusal, ldiRefusal}
-use Rattle.words.specs.Operation.{opBus, opRead, opOperated, opPointed, left, opWord}
+use Rattle.words.specs.Operation.{opBus, opRegisters, opWord}
+use Rattle.words.proofs.Between.{opRead, opOperated, opPointed}
 use Rattle.words.specs.Jump.{jpRegisters, jpWord}
 use Rattle.words.specs.Load.{ldiWord}
 use Rattle.words.specs.Word.{rowDone, fetchedDone, wordDone}
-use Rattle.accuracy.specs.Deeds.{wordAt}
+use Rattle.accuracy.specs.Deeds.{fetched}
 use Rattle.accuracy.specs.Adding.{opAddsM, addsM, opOperatesOnA, operatesOnA, loadsA}
-use Rattle.accuracy.proofs.Stages.{SameA, AddedM, read-a, loaded-a, left-a, pushed-a, added-a, idle-a}
+use Rattle.accuracy.proofs.Stages.{SameA, AddedM, read-a, loaded-a, pc-moved-a, pushed-a, added-a, idle-a}
 
 -- ---- an OP or RT word that finishes
 
@@ -38,21 +41,21 @@ negated false e = refl
 
 module _ (rt : Bool) (r : Registers) (f : OpFields) (ram rom : List ℕ) where
   abbrev op : Registers
-  op = left rt (opPointed r f ram rom)
+  op = opRegisters rt r f ram rom
 
   -- after the ALU, a word that does not load A leaves it
-  settled : (f .dst ≡ 1 → ⊥) → SameA (opOperated r f ram rom) op
+  settled : (f .dst ≡ destinationCode Dst.A → ⊥) → SameA (opOperated r f ram rom) op
   unfolding pointed
-  settled h = left-a rt (opPointed r f ram rom) ∙ loaded-a (r .dp) (r .rp) (opOperated r f ram rom) (f .dst) (opBus r f ram rom) ram rom h
+  settled h = pc-moved-a rt (opPointed r f ram rom) ∙ loaded-a (r .dp) (r .rp) (opOperated r f ram rom) (f .dst) (opBus r f ram rom) ram rom h
 
   op-adds : opAddsM f ≡ true → AddedM r op
   op-adds e =
       let h = simp and-eq-true-iff at e in
-      let n = eqb-false (f .dst) 1 (negated (eqb (f .dst) 1) (h .1)) in
+      let n = eqb-false (f .dst) (destinationCode Dst.A) (negated (isDestination (f .dst) Dst.A) (h .1)) in
       settled n ∙ added-a r (opRead r f) f (opBus r f ram rom) ram (omega (arith, eqb-true)) (omega (arith, eqb-true)) (omega (arith, eqb-true)) n
 
-  op-leaves : opOperatesOnA f ≡ false → eqb (f .dst) 1 ≡ false → SameA r op
-  op-leaves i n = settled (eqb-false (f .dst) 1 n) ∙ idle-a r (opRead r f) f (opBus r f ram rom) ram i (read-a r (sourceOf (f .src)))
+  op-leaves : opOperatesOnA f ≡ false → isDestination (f .dst) Dst.A ≡ false → SameA r op
+  op-leaves i n = settled (eqb-false (f .dst) (destinationCode Dst.A) n) ∙ idle-a r (opRead r f) f (opBus r f ram rom) ram i (read-a r (sourceOf (f .src)))
 
 -- ---- any word
 
@@ -61,7 +64,7 @@ abbrev pub Ends : (Registers → Type 0) → Outcome → Type 0
 Ends P o = o .number ≡ 0 → P (o .registers)
 
 -- a word is refused exactly where its number is not 0
-checked : (P : Registers → Type 0) (n : ℕ) (r q : Registers) (ram after : List ℕ) → P q → Ends P (cond (eqb n 0) (finishedWord q after) (refusedWord n r ram))
+checked : (P : Registers → Type 0) (n : ℕ) (r q : Registers) (ram after : List ℕ) → P q → Ends P (decided n r ram q after)
 checked P n r q ram after h = go (eqb n 0) refl
   where
     go : (t : Bool) → eqb n 0 ≡ t → Ends P (cond t (finishedWord q after) (refusedWord n r ram))
@@ -82,25 +85,25 @@ module _ (r : Registers) (ram rom : List ℕ) where
   row-leaves (Rt f) i n = checked (SameA r) (opRefusal true r f rom) r _ ram _ (op-leaves true r f ram rom i n)
   row-leaves (Jp f) i n =
       checked (SameA r) (jpRefusal r f) r _ ram _
-      (of-cond (SameA r) (eqb (f .brch) 4) refl
-      (of-cond (SameA r) (eqb (f .brch) 5) (pushed-a r (nextAddress upd77p20 (r .pc)))
+      (of-cond (SameA r) (eqb (f .brch) (branch .jump)) refl
+      (of-cond (SameA r) (eqb (f .brch) (branch .call)) (pushed-a r (nextAddress upd77p20 (r .pc)))
       (of-cond (SameA r) (conditionHolds r (f .cnd)) refl refl)))
   row-leaves (Ldi f) i n = checked (SameA r) (ldiRefusal r f rom) r _ ram _ (loaded-a (r .dp) (r .rp) r (f .dst) (f .id) ram rom (λ z. absurd (omega (arith, eqb-false))))
 
   -- a word too wide is refused with 4, and has no row
-  fetched : (P : Registers → Type 0) (w : ℕ) → Ends P (rowDone r (takenApart w .word) ram rom) → Ends P (fetchedDone r w ram rom)
+  of-fetched : (P : Registers → Type 0) (w : ℕ) → Ends P (rowDone r (takenApart w .word) ram rom) → Ends P (fetchedDone r w ram rom)
   unfolding fetchedDone
-  fetched P w h = go (eqb (takenApart w .refusal) 0) refl
+  of-fetched P w h = go (eqb (takenApart w .refusal) 0) refl
     where
       go : (t : Bool) → eqb (takenApart w .refusal) 0 ≡ t → Ends P (cond t (rowDone r (takenApart w .word) ram rom) (refusedWord (takenApart w .refusal) r ram))
       go true e z = h z
       go false e z = absurd (eqb-false (takenApart w .refusal) 0 e z)
 
 module _ (r : Registers) (program rom ram : List ℕ) (done : wordDone r program rom ram .number ≡ 0) where
-  pub word-adds : addsM (wordAt r program) ≡ true → AddedM r (wordDone r program rom ram .registers)
+  pub word-adds : addsM (fetched r program) ≡ true → AddedM r (wordDone r program rom ram .registers)
   unfolding wordDone
-  word-adds e = fetched r ram rom (AddedM r) (cellAt program (r .pc .0)) (row-adds r ram rom (wordAt r program) e) done
+  word-adds e = of-fetched r ram rom (AddedM r) (wordAt program (r .pc)) (row-adds r ram rom (fetched r program) e) done
 
-  pub word-leaves : operatesOnA (wordAt r program) ≡ false → loadsA (wordAt r program) ≡ false → SameA r (wordDone r program rom ram .registers)
+  pub word-leaves : operatesOnA (fetched r program) ≡ false → loadsA (fetched r program) ≡ false → SameA r (wordDone r program rom ram .registers)
   unfolding wordDone
-  word-leaves i n = fetched r ram rom (SameA r) (cellAt program (r .pc .0)) (row-leaves r ram rom (wordAt r program) i n) done
+  word-leaves i n = of-fetched r ram rom (SameA r) (wordAt program (r .pc)) (row-leaves r ram rom (fetched r program) i n) done

@@ -5,14 +5,15 @@ use mathlib.Core.Bool.{Bool, cond, _&&_}
 use mathlib.Core.List.{List, [], _∷_, _++_}
 use lib.Dec.{eqb}
 use Rattle.device.specs.Device.{upd77p20}
-use Rattle.device.specs.Lent.{cellAt}
+use Rattle.device.specs.Lent.{wordAt}
 use Rattle.device.specs.Registers.{registersFit}
 use Rattle.device.specs.declared.registers.Registers.{Registers}
 use Rattle.word.specs.Word.{takenApart}
 use Rattle.word.specs.declared.Word.{Word}
 use Rattle.words.specs.Word.{wordDone}
 use Rattle.machine.specs.Replies.{Ending}
-use Rattle.machine.specs.Events.{lengthsFit, allowed, eventDone}
+use Rattle.machine.specs.Events.{lentFit, eventDone}
+use Rattle.events.specs.Events.{allowed}
 
 -- one call: what is lent for it, and the event
 pub record Call : Type 0 where
@@ -35,9 +36,9 @@ pub data Deed : Type 0 where
   word : Word → Registers → Deed
   event : ℕ → Deed
 
--- the word at PC
-abbrev pub wordAt : Registers → List ℕ → Word
-wordAt r program = takenApart (cellAt program (r .pc .0)) .word
+-- the word at PC, taken apart
+abbrev pub fetched : Registers → List ℕ → Word
+fetched r program = takenApart (wordAt program (r .pc)) .word
 
 -- a word in front of those after it, if it finishes; after a refused one there are none
 abbrev pub inFront : Bool → Deed → List Deed → List Deed
@@ -49,11 +50,11 @@ wordsOf zero r program rom ram = []
 wordsOf (suc n) r program rom ram =
     let o = wordDone r program rom ram in
     let more = wordsOf n (o .registers) program rom (o .ram) in
-    inFront (eqb (o .number) 0) (word (wordAt r program) r) more
+    inFront (eqb (o .number) 0) (word (fetched r program) r) more
 
 -- not refused as a whole, by 1, 2 or 3
 abbrev pub accepted : Registers → Call → Bool
-accepted r c = lengthsFit (c .program) (c .rom) (c .ram) && registersFit upd77p20 r && allowed (c .kind) (c .value)
+accepted r c = lentFit (c .program) (c .rom) (c .ram) && registersFit upd77p20 r && allowed (c .kind) (c .value)
 
 unfoldable pub callDeeds : Registers → Call → List Deed
 callDeeds r c =

@@ -3,13 +3,12 @@ use Prim.Native.Nat.{_≤_}
 use mathlib.Core.Path.{_≡_}
 use mathlib.Core.Bool.{false}
 use mathlib.Core.List.{List}
-use lib.IntN.{ℤ}
 use lib.ListN.{length}
-use Rattle.alu.specs.Sums.{answerOf}
-use Rattle.multiplier.specs.Product.{BothLeast}
+use Rattle.alu.specs.Answer.{answer}
+use Rattle.multiplier.specs.BothLeast.{BothLeast}
 use Rattle.device.specs.declared.registers.Registers.{Registers}
 use Rattle.stages.specs.Accumulators.{accumulatorA}
-use Rattle.accuracy.specs.Every.{Every}
+use Rattle.numbers.specs.Every.{Every}
 use Rattle.accuracy.specs.Exact.{Inputs, Accurate}
 use Rattle.accuracy.specs.Deeds.{Call, Deed, word, event, deeds, after}
 use Rattle.accuracy.specs.Adding.{addsM, operatesOnA, loadsA, added}
@@ -45,14 +44,10 @@ NotBoth p = BothLeast (p .k) (p .l) → ⊥
 abbrev pub Apart : Registers → List Call → Type 0
 Apart r calls = Every NotBoth (added (deeds r calls))
 
--- "Take A if OV1 is 0, else SGN."
-abbrev pub answer : Registers → ℤ
-answer r = answerOf (accumulatorA r)
-
--- "In 32768ths, the exact start plus exact products, held within -32768 to 32767 whole, is never below that answer, and above it by at most
+-- "Take A if OV1 is 0, else SGN. In 32768ths, the exact start plus exact products, held within -32768 to 32767 whole, is never below that answer, and above it by at most
 -- 32767 for each word added."
 abbrev pub Near : Registers → List Call → Type 0
-Near r calls = Accurate (r .a) (added (deeds r calls)) (answer (after r calls))
+Near r calls = Accurate (r .a) (added (deeds r calls)) (answer (accumulatorA (after r calls)))
 
 -- for any registers, and any calls with any images, RAM, kinds and values
 abbrev pub Demand3 : Type 0

@@ -4,7 +4,8 @@ use mathlib.Core.List.{List, [], _∷_}
 use lib.IntN.{ℤ, pos, negsuc, _+ℤ_, _*ℤ_}
 use lib.ListN.{length}
 use lib.Signed.{_≤ℤ_}
-use Rattle.numbers.specs.Signed.{signed, held}
+use Rattle.numbers.specs.Signed.{signed}
+use Rattle.numbers.specs.Held.{held}
 use Rattle.multiplier.specs.Product.{product}
 
 -- K and L as an adding word finds them

@@ -11,10 +11,12 @@ use Rattle.device.specs.Device.{upd77p20}
 use Rattle.device.specs.Registers.{freshRegisters}
 use Rattle.device.specs.Set.{set-a, set-k, set-l, set-flags-a, set-flags-b}
 use Rattle.device.specs.declared.registers.Registers.{Registers}
+use Rattle.alu.specs.Answer.{answer}
+use Rattle.stages.specs.Accumulators.{accumulatorA}
 use Rattle.accuracy.specs.Exact.{in32768ths, products, heldSum}
 use Rattle.accuracy.specs.Deeds.{Call, after, deeds}
 use Rattle.accuracy.specs.Adding.{added}
-use Rattle.accuracy.specs.Demand3.{Clear, Unreset, AtMostThree, Alone, Apart, answer, Near}
+use Rattle.accuracy.specs.Demand3.{Clear, Unreset, AtMostThree, Alone, Apart, Near}
 
 -- ---- machines, words and calls
 
@@ -52,7 +54,7 @@ run words = call words 0 (length words) ∷ []
 
 -- how far the held sum is above the answer
 abbrev pub distance : Registers → List Call → ℤ
-distance r calls = heldSum (r .a) (added (deeds r calls)) -ℤ in32768ths (answer (after r calls))
+distance r calls = heldSum (r .a) (added (deeds r calls)) -ℤ in32768ths (answer (accumulatorA (after r calls)))
 
 -- the sum before it is held, in 32768ths
 abbrev pub exactSum : Registers → List Call → ℤ

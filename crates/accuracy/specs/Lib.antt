@@ -1,4 +1,3 @@
-pub mod Every
 pub mod Exact
 pub mod Deeds
 pub mod Listed

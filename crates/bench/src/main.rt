@@ -1,47 +1,61 @@
-// The bench cases of 01, as the compiled functions answer them: the bench staff's paper copy.
+// The bench cases of 01 as words and events that the compiled machine runs: the bench staff's paper copy.
 // specs/Cases.antt has the same cases as statements about the definitions.
 mod paper;
 
-use alu::Accumulator;
-use alu::Flags;
-use alu::Operation;
 use device::RamPointer;
 use device::Registers;
-use device::RomPointer;
 use device::Upd77p20;
-use machine::Answer;
+use machine::AfterEvent;
 use paper::flag;
 use paper::number;
 use paper::register;
 use paper::text;
 use word::Word;
 
-// One word, alone in its program, run from given registers.
-fn run_one(r: Registers, word: u32) -> Answer {
+// OP words that are used more than once: ADD of RAM at DP, of M and of N to A; the first also with DP up.
+const ADD_RAM: u32 = 0x028000;
+
+const ADD_RAM_UP: u32 = 0x029000;
+
+const ADD_M: u32 = 0x128000;
+
+const ADD_N: u32 = 0x1a8000;
+
+// Words from given registers, with RAM cells 0 and 1 set.
+fn run(r: Registers, words: [u32; 3], count: u32, cell0: u16, cell1: u16) -> AfterEvent {
     let mut program = [0u32; Upd77p20::WORDS as usize];
-    program[0] = word;
+    program[0] = words[0];
+    program[1] = words[1];
+    program[2] = words[2];
     let rom = [0u16; Upd77p20::CELLS as usize];
     let mut ram = [0u16; Upd77p20::RAM as usize];
-    machine::event(r, &program, &rom, &mut ram, 0, 1)
+    ram[0] = cell0;
+    ram[1] = cell1;
+    machine::event(r, &program, &rom, &mut ram, 0, count)
 }
 
-// 1: word 0 on registers that are not 0.
+// One word, alone in its program.
+fn run_one(r: Registers, word: u32) -> AfterEvent {
+    run(r, [word, 0, 0], 1, 0, 0)
+}
+
+// Case 1: word 0 on registers that are not 0.
 fn word_0() {
     let mut r = Upd77p20::fresh_registers();
     r.a = 0x1234;
     let dp = RamPointer(0x7f);
     r.dp = dp;
     r.sr = 0x8080;
-    let answer = run_one(r, 0);
-    let q = answer.registers;
-    register(1, b"word 0: words done        ", 1, answer.words);
+    let after = run_one(r, 0);
+    let q = after.registers;
+    register(1, b"word 0: words done        ", 1, after.words);
     register(1, b"word 0: PC                ", 1, q.pc.0);
     register(1, b"word 0: A, 1234H before   ", 0x1234, q.a);
     register(1, b"word 0: DP, 7FH before    ", 0x7f, q.dp.0);
     register(1, b"word 0: SR, 8080H before  ", 0x8080, q.sr);
 }
 
-// 2: what the two words do.
+// Case 2: what the two words do.
 fn jump_and_load() {
     let jumped = run_one(Upd77p20::fresh_registers(), 0x501000);
     let q = jumped.registers;
@@ -51,7 +65,7 @@ fn jump_and_load() {
     register(2, b"624681H run: A            ", 0x1234, q.a);
 }
 
-// 9: two bytes for the host.
+// Case 9: two bytes for the host.
 fn host_reads() {
     let program = [0u32; Upd77p20::WORDS as usize];
     let rom = [0u16; Upd77p20::CELLS as usize];
@@ -65,7 +79,7 @@ fn host_reads() {
     register(9, b"DR 1234H: second byte     ", 0x12, high.value);
 }
 
-// 2: what the two words hold. BRCH 4 is the jump, DST 1 is A.
+// Case 2: what the two words hold. BRCH 4 is the jump, DST 1 is A.
 fn words() {
     let jump = word::take_apart(0x501000);
     let row = jump.word;
@@ -85,90 +99,114 @@ fn words() {
     }
 }
 
-// 3: the two products.
+// A after a word that adds M or N to 0.
+fn added(k: u16, l: u16, word: u32) -> u16 {
+    let mut r = Upd77p20::fresh_registers();
+    r.k = k;
+    r.l = l;
+    let after = run_one(r, word);
+    let q = after.registers;
+    q.a
+}
+
+// Case 3: the two products.
 fn products() {
     register(
         3,
         b"8000H times 8000H: M      ",
         0x8000,
-        multiplier::m(0x8000, 0x8000),
+        added(0x8000, 0x8000, ADD_M),
     );
     register(
         3,
         b"8000H times 8000H: N      ",
         0,
-        multiplier::n(0x8000, 0x8000),
+        added(0x8000, 0x8000, ADD_N),
     );
     register(
         3,
         b"FFFFH times 1: M          ",
         0xffff,
-        multiplier::m(0xffff, 1),
+        added(0xffff, 1, ADD_M),
     );
     register(
         3,
         b"FFFFH times 1: N          ",
         0xfffe,
-        multiplier::n(0xffff, 1),
+        added(0xffff, 1, ADD_N),
     );
 }
 
-// A value with all six flags 0.
-fn clear(value: u16) -> Accumulator {
-    Accumulator {
-        value,
-        flags: Flags {
-            s1: false,
-            s0: false,
-            c: false,
-            z: false,
-            ov1: false,
-            ov0: false,
-        },
-    }
+// A fresh machine but for A.
+fn with_a(a: u16) -> Registers {
+    let mut r = Upd77p20::fresh_registers();
+    r.a = a;
+    r
 }
 
-// 4 and 5: sums that leave 16 bits.
+// Cases 4 and 5: sums that leave 16 bits.
 fn sums() {
-    let a = alu::operate(Operation::Add, clear(0x7fff), 0x7fff, false);
-    let f = a.flags;
-    register(4, b"7FFFH ADD 7FFFH: A        ", 0xfffe, a.value);
+    let once = run(with_a(0x7fff), [ADD_RAM_UP, ADD_RAM, 0], 1, 0x7fff, 0x8000);
+    let q = once.registers;
+    let flags = q.flags;
+    let f = flags.a;
+    register(4, b"7FFFH ADD 7FFFH: A        ", 0xfffe, q.a);
     flag(4, b"7FFFH ADD 7FFFH: C        ", false, f.c);
     flag(4, b"7FFFH ADD 7FFFH: OV1      ", true, f.ov1);
     flag(4, b"7FFFH ADD 7FFFH: S1       ", true, f.s1);
-    let a = alu::operate(Operation::Add, a, 0x8000, false);
-    let f = a.flags;
-    register(4, b"then ADD 8000H: A         ", 0x7ffe, a.value);
+    let twice = run(with_a(0x7fff), [ADD_RAM_UP, ADD_RAM, 0], 2, 0x7fff, 0x8000);
+    let q = twice.registers;
+    let flags = q.flags;
+    let f = flags.a;
+    register(4, b"then ADD 8000H: A         ", 0x7ffe, q.a);
     flag(4, b"then ADD 8000H: C         ", true, f.c);
     flag(4, b"then ADD 8000H: OV1       ", false, f.ov1);
     flag(4, b"then ADD 8000H: S1        ", true, f.s1);
-    let a = alu::operate(Operation::Add, clear(0x8000), 0x8000, false);
-    let f = a.flags;
-    register(5, b"8000H ADD 8000H: A        ", 0, a.value);
+    let least = run(with_a(0x8000), [ADD_RAM, 0, 0], 1, 0x8000, 0);
+    let q = least.registers;
+    let flags = q.flags;
+    let f = flags.a;
+    register(5, b"8000H ADD 8000H: A        ", 0, q.a);
     flag(5, b"8000H ADD 8000H: Z        ", true, f.z);
     flag(5, b"8000H ADD 8000H: C        ", true, f.c);
     flag(5, b"8000H ADD 8000H: OV1      ", true, f.ov1);
     flag(5, b"8000H ADD 8000H: S1       ", false, f.s1);
 }
 
-// 6: shifts.
+// Case 6: SHR1, SHL2 and SHL4 of A.
 fn shifts() {
-    let a = alu::operate(Operation::Shr1, clear(0x8001), 0, false);
-    let f = a.flags;
-    register(6, b"SHR1 of 8001H: A          ", 0xc000, a.value);
+    let after = run_one(with_a(0x8001), 0x058000);
+    let q = after.registers;
+    let flags = q.flags;
+    let f = flags.a;
+    register(6, b"SHR1 of 8001H: A          ", 0xc000, q.a);
     flag(6, b"SHR1 of 8001H: C          ", true, f.c);
-    let a = alu::operate(Operation::Shl2, clear(1), 0, false);
-    register(6, b"SHL2 of 1: A              ", 7, a.value);
-    let a = alu::operate(Operation::Shl4, clear(1), 0, false);
-    register(6, b"SHL4 of 1: A              ", 0x1f, a.value);
+    let after = run_one(with_a(1), 0x068000);
+    let q = after.registers;
+    register(6, b"SHL2 of 1: A              ", 7, q.a);
+    let after = run_one(with_a(1), 0x070000);
+    let q = after.registers;
+    register(6, b"SHL4 of 1: A              ", 0x1f, q.a);
 }
 
-// 7: pointers.
+// Case 7: one word with DPL up, DPH-M 1 and RPDCR.
 fn pointers() {
-    let dp = RamPointer(0x0f).moved(1, 1);
-    register(7, b"DP 0FH, up, DPH-M 1: DP   ", 0x10, dp.0);
-    let rp = RomPointer(0).down();
-    register(7, b"RP 0 down: RP             ", 511, rp.0);
+    let mut r = Upd77p20::fresh_registers();
+    let dp = RamPointer(0x0f);
+    r.dp = dp;
+    let after = run_one(r, 0x001300);
+    let q = after.registers;
+    register(7, b"DP 0FH, up, DPH-M 1: DP   ", 0x10, q.dp.0);
+    register(7, b"RP 0 down: RP             ", 511, q.rp.0);
+}
+
+// Case 8: SIL to A.
+fn reversed() {
+    let mut r = Upd77p20::fresh_registers();
+    r.si = 1;
+    let after = run_one(r, 0x0000c1);
+    let q = after.registers;
+    register(8, b"SIL of 1                  ", 0x8000, q.a);
 }
 
 // A register's signed value in 32768ths, and the exact product of K and L, which M and half of N make up: both modulo 2^64.
@@ -182,19 +220,13 @@ fn exact_product(k: u16, l: u16) -> u64 {
     std::num::wrapping_add_u64(in_32768ths(multiplier::m(k, l)), low as u64)
 }
 
-// 10: three words that add M to A, and how far the exact sum is above A, in 32768ths.
+// Case 10: three words that add M to A, and how far the exact sum is above A, in 32768ths.
 fn three_adds() {
-    let mut program = [0u32; Upd77p20::WORDS as usize];
-    program[0] = 0x128000;
-    program[1] = 0x128000;
-    program[2] = 0x128000;
-    let rom = [0u16; Upd77p20::CELLS as usize];
-    let mut ram = [0u16; Upd77p20::RAM as usize];
     let mut r = Upd77p20::fresh_registers();
     r.k = 0xffff;
     r.l = 1;
-    let answer = machine::event(r, &program, &rom, &mut ram, 0, 3);
-    let q = answer.registers;
+    let after = run(r, [ADD_M, ADD_M, ADD_M], 3, 0, 0);
+    let q = after.registers;
     let f = q.flags;
     let a = f.a;
     register(10, b"FFFFH times 1, 3 adds: A  ", 0xfffd, q.a);
@@ -214,12 +246,7 @@ fn main() {
     sums();
     shifts();
     pointers();
-    register(
-        8,
-        b"SIL of 1                  ",
-        0x8000,
-        numbers::reverse16(1),
-    );
+    reversed();
     host_reads();
     three_adds();
 }

@@ -1,14 +1,12 @@
 -- Taking apart and building undo each other in the form that C holds, because they do in the form of four rows.
 -- Assumes nothing.
-use Prim.Native.Nat.{ℕ, _<_}
 use mathlib.Core.Path.{_≡_, refl, _∙_}
-use mathlib.Core.Bool.{true}
-use Rattle.device.specs.Device.{upd77p20, wordLimit}
-use Rattle.word.specs.Word.{takenApart, wordHolds, built}
+use Rattle.word.specs.Word.{takenApart, built}
 use Rattle.word.specs.declared.Word.{Word}
 use Rattle.word.specs.declared.Word.the-variants.{Op, Rt, Jp, Ldi}
 use Rattle.word.proofs.RoundTrip.{taken-then-built, built-then-taken}
 use Rattle.board.specs.Rows.{rowsOf, takenRows, builtRows}
+use Rattle.board.specs.RoundTrip.{RowsTakenThenBuilt, RowsBuiltThenTaken}
 
 -- the builder on a word's rows is the builder on the word
 same-built : (word : Word) → builtRows (rowsOf word) ≡ built word
@@ -18,10 +16,10 @@ same-built (Rt f) = refl
 same-built (Jp f) = refl
 same-built (Ldi f) = refl
 
-pub rows-taken-then-built : (w : ℕ) → w < wordLimit upd77p20 → builtRows (takenRows w .rows) ≡ record { refusal = 0; bits = w }
+pub rows-taken-then-built : RowsTakenThenBuilt
 unfolding takenRows
 rows-taken-then-built w h = same-built (takenApart w .word) ∙ taken-then-built w h
 
-pub rows-built-then-taken : (word : Word) → wordHolds word ≡ true → takenRows (builtRows (rowsOf word) .bits) ≡ record { refusal = 0; rows = rowsOf word }
+pub rows-built-then-taken : RowsBuiltThenTaken
 unfolding takenRows
 rows-built-then-taken word h = rw (same-built word, built-then-taken word h)

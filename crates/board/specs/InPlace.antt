@@ -6,5 +6,5 @@ use Rattle.machine.specs.Replies.{Ending}
 use Rattle.board.specs.declared.Reply.{Reply}
 
 -- the reply, the record and the RAM after the call
-abbrev pub leaves : Reply → Registers → List ℕ → Ending
-leaves x registers ram = record { number = x .number; words = x .words; value = x .value; registers = registers; ram = ram }
+abbrev pub endingInPlace : Reply → Registers → List ℕ → Ending
+endingInPlace x registers ram = record { number = x .number; words = x .words; value = x .value; registers = registers; ram = ram }

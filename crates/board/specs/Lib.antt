@@ -1,2 +1,4 @@
 pub mod InPlace
 pub mod Rows
+pub mod RoundTrip
+pub mod Unique

@@ -2,31 +2,20 @@
 use Prim.Native.Nat.{ℕ}
 use mathlib.Core.List.{List, [], _∷_}
 use lib.ListN.{getD}
+use Rattle.word.specs.Fields.{opFields, jpFields, ldiFields}
 use Rattle.word.specs.Word.{takenApart, built}
 use Rattle.word.specs.declared.Word.{Word}
 use Rattle.word.specs.declared.Word.the-variants.{Op, Rt, Jp, Ldi}
-use Rattle.word.specs.declared.OpFields.{OpFields}
-use Rattle.word.specs.declared.JpFields.{JpFields}
-use Rattle.word.specs.declared.LdiFields.{LdiFields}
 use Rattle.word.specs.declared.Built.{Built}
 use Rattle.board.specs.declared.Rows.{Rows}
 use Rattle.board.specs.declared.TakenRows.{TakenRows}
 
 -- "the fields of its own row, and no others": those of the other rows are 0
-abbrev pub noOp : OpFields
-noOp = record { psel = 0; alu = 0; asl = 0; dpl = 0; dphm = 0; rpdcr = 0; src = 0; dst = 0 }
-
-abbrev pub noJp : JpFields
-noJp = record { brch = 0; cnd = 0; na = 0; spare = 0 }
-
-abbrev pub noLdi : LdiFields
-noLdi = record { id = 0; spare = 0; dst = 0 }
-
 abbrev pub rowsOf : Word → Rows
-rowsOf (Op f) = record { row = 0; op = f; jp = noJp; ldi = noLdi }
-rowsOf (Rt f) = record { row = 1; op = f; jp = noJp; ldi = noLdi }
-rowsOf (Jp f) = record { row = 2; op = noOp; jp = f; ldi = noLdi }
-rowsOf (Ldi f) = record { row = 3; op = noOp; jp = noJp; ldi = f }
+rowsOf (Op f) = record { row = 0; op = f; jp = jpFields 0; ldi = ldiFields 0 }
+rowsOf (Rt f) = record { row = 1; op = f; jp = jpFields 0; ldi = ldiFields 0 }
+rowsOf (Jp f) = record { row = 2; op = opFields 0; jp = f; ldi = ldiFields 0 }
+rowsOf (Ldi f) = record { row = 3; op = opFields 0; jp = jpFields 0; ldi = f }
 
 -- refusal 4 as the taker gives it
 unfoldable pub takenRows : ℕ → TakenRows

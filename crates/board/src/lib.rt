@@ -2,8 +2,9 @@
 ghost use mathlib.Core.Path.{_≡_};
 ghost use Rattle.device.specs.Registers.{freshRegisters};
 ghost use Rattle.machine.specs.Events.{eventDone};
-ghost use Rattle.board.specs.InPlace.{leaves};
-ghost use Rattle.board.specs.Rows.{noOp, noJp, noLdi, takenRows, builtRows};
+ghost use Rattle.word.specs.Fields.{opFields, jpFields, ldiFields};
+ghost use Rattle.board.specs.InPlace.{endingInPlace};
+ghost use Rattle.board.specs.Rows.{takenRows, builtRows};
 use device::Registers;
 use device::Upd77p20;
 use word::Built;
@@ -28,7 +29,7 @@ pub struct Reply {
 }
 
 #[repr(C)]
-pub struct Answered {
+pub struct AfterCall {
     pub registers: Registers,
     pub reply: Reply,
 }
@@ -40,17 +41,17 @@ fn by_value(
     rom: &[u16],
     ram: &mut [u16],
     event: Event,
-) -> Answered
-    ensures { λ x. ⌜ leaves (x .reply) (x .registers) (now (ram .exit)) ≡ eventDone registers (now (program .entry)) (now (rom .entry)) (now (ram .entry)) (event .kind) (event .value) ⌝ }
+) -> AfterCall
+    ensures { λ x. ⌜ endingInPlace (x .reply) (x .registers) (now (ram .exit)) ≡ eventDone registers (now (program .entry)) (now (rom .entry)) (now (ram .entry)) (event .kind) (event .value) ⌝ }
 {
-    let answer = machine::event(registers, program, rom, ram, event.kind, event.value);
-    let after = answer.registers;
-    Answered {
+    let done = machine::event(registers, program, rom, ram, event.kind, event.value);
+    let after = done.registers;
+    AfterCall {
         registers: after,
         reply: Reply {
-            number: answer.number,
-            words: answer.words,
-            value: answer.value,
+            number: done.number,
+            words: done.words,
+            value: done.value,
         },
     }
 }
@@ -64,7 +65,7 @@ pub extern "C" fn bemulatsho_event_in_place(
     ram: &mut [u16],
     event: Event,
 ) -> Reply
-    ensures { λ x. ⌜ leaves x (now (registers .exit)) (now (ram .exit)) ≡ eventDone (now (registers .entry)) (now (program .entry)) (now (rom .entry)) (now (ram .entry)) (event .kind) (event .value) ⌝ }
+    ensures { λ x. ⌜ endingInPlace x (now (registers .exit)) (now (ram .exit)) ≡ eventDone (now (registers .entry)) (now (program .entry)) (now (rom .entry)) (now (ram .entry)) (event .kind) (event .value) ⌝ }
 {
     let before = *registers;
     let a = by_value(before, program, rom, ram, event);
@@ -106,7 +107,7 @@ pub struct TakenRows {
 }
 
 fn no_op() -> OpFields
-    ensures { λ r. ⌜ r ≡ noOp ⌝ }
+    ensures { λ r. ⌜ r ≡ opFields 0 ⌝ }
 {
     OpFields {
         psel: 0,
@@ -121,7 +122,7 @@ fn no_op() -> OpFields
 }
 
 fn no_jp() -> JpFields
-    ensures { λ r. ⌜ r ≡ noJp ⌝ }
+    ensures { λ r. ⌜ r ≡ jpFields 0 ⌝ }
 {
     JpFields {
         brch: 0,
@@ -132,7 +133,7 @@ fn no_jp() -> JpFields
 }
 
 fn no_ldi() -> LdiFields
-    ensures { λ r. ⌜ r ≡ noLdi ⌝ }
+    ensures { λ r. ⌜ r ≡ ldiFields 0 ⌝ }
 {
     LdiFields {
         id: 0,

@@ -10,15 +10,16 @@ use Rattle.numbers.proofs.Codes.{Misses, past}
 use Rattle.device.specs.Device.{upd77p20}
 use Rattle.device.specs.Registers.{registersFit}
 use Rattle.device.specs.declared.registers.Registers.{Registers}
-use Rattle.machine.specs.Replies.{refusedCall, answered}
-use Rattle.machine.specs.Events.{lengthsFit, allowed, reset, kinds, kindDone, eventDone}
+use Rattle.machine.specs.Replies.{refusedCall, finishedCall}
+use Rattle.machine.specs.Events.{lentFit, kinds, kindDone, eventDone}
+use Rattle.events.specs.Events.{allowed, reset}
 
 module _ (r : Registers) (program rom ram : List ℕ) (kind value : ℕ) where
-  pub call-refused-1 : lengthsFit program rom ram ≡ false → refusedCall 1 r ram ≡ eventDone r program rom ram kind value
+  pub call-refused-1 : lentFit program rom ram ≡ false → refusedCall 1 r ram ≡ eventDone r program rom ram kind value
   unfolding eventDone
   call-refused-1 e = rw e
 
-  module _ (long : lengthsFit program rom ram ≡ true) where
+  module _ (long : lentFit program rom ram ≡ true) where
     pub call-refused-2 : registersFit upd77p20 r ≡ false → refusedCall 2 r ram ≡ eventDone r program rom ram kind value
     unfolding eventDone
     call-refused-2 e = rw (long, e)
@@ -33,9 +34,9 @@ module _ (r : Registers) (program rom ram : List ℕ) (kind value : ℕ) where
       call-done e = rw (long, fit, e)
 
   -- a kind that is none of the others is the reset
-  pub kind-reset : Misses 7 kind → answered 0 (reset r) ram ≡ kindDone kind value r program rom ram
+  pub kind-reset : Misses 7 kind → finishedCall 0 (reset r) ram ≡ kindDone kind value r program rom ram
   unfolding kindDone
-  kind-reset h = past (kinds value r program rom ram) (answered 0 (reset r) ram) kind h
+  kind-reset h = past (kinds value r program rom ram) (finishedCall 0 (reset r) ram) kind h
 
 -- what a kind allows fits its type
 module _ (kind value : ℕ) (ok : allowed kind value ≡ true) where

@@ -11,15 +11,16 @@ use Rattle.device.specs.Registers.{registersFit}
 use Rattle.device.specs.declared.registers.Registers.{Registers}
 use Rattle.status.specs.Status.{ei}
 use Rattle.words.specs.Refusals.{stackFull}
-use Rattle.machine.specs.Replies.{Ending, refusedCall, answered}
-use Rattle.machine.specs.Host.{byteRead, hostRead, hostWritten}
-use Rattle.machine.specs.Events.{lengthsFit, allowed, serialIn, serialOut, serialOutEnding, interrupted, interruptEnding, reset, kindDone, eventDone}
+use Rattle.machine.specs.Replies.{Ending, refusedCall, finishedCall}
+use Rattle.events.specs.Host.{byteRead, hostRead, hostWritten}
+use Rattle.machine.specs.Events.{lentFit, serialOutEnding, interruptEnding, kindDone, eventDone}
+use Rattle.events.specs.Events.{allowed, serialIn, serialOut, interrupted, reset}
 
 -- a call that is refused as a whole, or the event of its kind
 pub by-tests : (P : Ending → Type 0) (r : Registers) (program rom ram : List ℕ) (kind value : ℕ)
     → ((number : ℕ) → P (refusedCall (suc number) r ram)) → (allowed kind value ≡ true → P (kindDone kind value r program rom ram)) → P (eventDone r program rom ram kind value)
 unfolding eventDone
-by-tests P r program rom ram kind value refused done = go (lengthsFit program rom ram) (registersFit upd77p20 r) (allowed kind value) refl
+by-tests P r program rom ram kind value refused done = go (lentFit program rom ram) (registersFit upd77p20 r) (allowed kind value) refl
   where
     go : (s t u : Bool) → allowed kind value ≡ u → P (cond s (cond t (cond u (kindDone kind value r program rom ram) (refusedCall 3 r ram)) (refusedCall 2 r ram)) (refusedCall 1 r ram))
     go true true true e = done e
@@ -30,18 +31,18 @@ by-tests P r program rom ram kind value refused done = go (lengthsFit program ro
 -- what holds of every ending that a call other than a run can have holds of the one that it has
 pub record Endings (P : Ending → Type 0) (r : Registers) (ram : List ℕ) (value : ℕ) : Type 0 where
   pub refused : (number : ℕ) → P (refusedCall (suc number) r ram)
-  pub read : P (answered (byteRead r) (hostRead r) ram)
-  pub written : P (answered 0 (hostWritten r value) ram)
-  pub status : P (answered (bits (r .sr) 15 8) r ram)
-  pub word-in : P (answered 0 (serialIn r value) ram)
-  pub word-out : P (answered (r .so) (serialOut r) ram)
-  pub taken : P (answered 0 (interrupted r) ram)
-  pub ignored : P (answered 0 r ram)
+  pub read : P (finishedCall (byteRead r) (hostRead r) ram)
+  pub written : P (finishedCall 0 (hostWritten r value) ram)
+  pub status : P (finishedCall (bits (r .sr) 15 8) r ram)
+  pub word-in : P (finishedCall 0 (serialIn r value) ram)
+  pub word-out : P (finishedCall (r .so) (serialOut r) ram)
+  pub taken : P (finishedCall 0 (interrupted r) ram)
+  pub ignored : P (finishedCall 0 r ram)
 
-pub by-kinds : (P : Ending → Type 0) (r : Registers) (program rom ram : List ℕ) (kind value : ℕ) → Endings P r ram value → (suc kind ≡ 7 → P (answered 0 (reset r) ram)) → P (eventDone r program rom ram (suc kind) value)
+pub by-kinds : (P : Ending → Type 0) (r : Registers) (program rom ram : List ℕ) (kind value : ℕ) → Endings P r ram value → (suc kind ≡ 7 → P (finishedCall 0 (reset r) ram)) → P (eventDone r program rom ram (suc kind) value)
 by-kinds P r program rom ram kind value e onReset = by-tests P r program rom ram (suc kind) value (e .refused) (go kind onReset)
   where
-    go : (kind : ℕ) → (suc kind ≡ 7 → P (answered 0 (reset r) ram)) → allowed (suc kind) value ≡ true → P (kindDone (suc kind) value r program rom ram)
+    go : (kind : ℕ) → (suc kind ≡ 7 → P (finishedCall 0 (reset r) ram)) → allowed (suc kind) value ≡ true → P (kindDone (suc kind) value r program rom ram)
     go zero onReset ok = unfold kindDone in e .read
     go (suc zero) onReset ok = unfold kindDone in e .written
     go (suc (suc zero)) onReset ok = unfold kindDone in e .status

@@ -17,8 +17,10 @@ use Rattle.words.proofs.Fitting.{SrFits, Fit, fit-of, fits-of, fit-pc, fit-sr, 
 use Rattle.words.proofs.WordFits.{word-fit}
 use Rattle.machine.specs.Replies.{Ending}
 use Rattle.machine.specs.Run.{ran}
-use Rattle.machine.specs.Host.{statusAccessed}
-use Rattle.machine.specs.Events.{lengthsFit, allowed, serialOutEnding, interrupted, interruptEnding, reset, kinds, kindDone, eventDone}
+use Rattle.machine.specs.Promises.{EventFits}
+use Rattle.events.specs.Host.{statusAccessed}
+use Rattle.machine.specs.Events.{lentFit, serialOutEnding, interruptEnding, kinds, kindDone, eventDone}
+use Rattle.events.specs.Events.{allowed, interrupted, reset}
 
 -- the registers that a call leaves behind fit
 abbrev FitCall : Ending → Type 0
@@ -69,12 +71,9 @@ module _ (r : Registers) (program rom ram : List ℕ) (h : Fit r) where
   unfolding eventDone
   event-fit kind value =
       let done = of-cond FitCall (allowed kind value) (kind-fit kind value) h in
-      of-cond FitCall (lengthsFit program rom ram) (of-cond FitCall (registersFit upd77p20 r) done h) h
+      of-cond FitCall (lentFit program rom ram) (of-cond FitCall (registersFit upd77p20 r) done h) h
 
 -- ---- by the test of refusal 2
 
-pub ran-fits : (n words : ℕ) (r : Registers) (program rom ram : List ℕ) → registersFit upd77p20 r ≡ true → registersFit upd77p20 (ran n words r program rom ram .registers) ≡ true
-ran-fits n words r program rom ram e = fits-of _ (run-fit n words r program rom ram (fit-of r e))
-
-pub event-fits : (r : Registers) (program rom ram : List ℕ) (kind value : ℕ) → registersFit upd77p20 r ≡ true → registersFit upd77p20 (eventDone r program rom ram kind value .registers) ≡ true
+pub event-fits : EventFits
 event-fits r program rom ram kind value e = fits-of _ (event-fit r program rom ram (fit-of r e) kind value)

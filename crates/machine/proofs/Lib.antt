@@ -1,6 +1,6 @@
 pub mod Runs
 pub mod Calls
-pub mod Answers
+pub mod Unique
 pub mod Counting
 pub mod Fitting
 pub mod Endings

@@ -1,4 +1,7 @@
 pub mod Replies
 pub mod Run
-pub mod Host
 pub mod Events
+pub mod Promises
+pub mod Counting
+pub mod HostPort
+pub mod Resetting

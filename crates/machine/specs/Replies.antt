@@ -2,7 +2,7 @@
 use Prim.Native.Nat.{ℕ}
 use mathlib.Core.List.{List}
 use Rattle.device.specs.declared.registers.Registers.{Registers}
-use Rattle.machine.specs.declared.replies.Answer.{Answer}
+use Rattle.machine.specs.declared.replies.AfterEvent.{AfterEvent}
 
 -- the reply's number, words done and value, the registers, the RAM
 pub record Ending : Type 0 where
@@ -17,9 +17,9 @@ abbrev pub refusedCall : ℕ → Registers → List ℕ → Ending
 refusedCall number r ram = record { number = number; words = 0; value = 0; registers = r; ram = ram }
 
 -- an event other than a run, with its value
-abbrev pub answered : ℕ → Registers → List ℕ → Ending
-answered value q ram = record { number = 0; words = 0; value = value; registers = q; ram = ram }
+abbrev pub finishedCall : ℕ → Registers → List ℕ → Ending
+finishedCall value q ram = record { number = 0; words = 0; value = value; registers = q; ram = ram }
 
--- what the code answers, with the RAM as it is left
-abbrev pub ending : Answer → List ℕ → Ending
+-- what the code hands back, with the RAM as it is left
+abbrev pub ending : AfterEvent → List ℕ → Ending
 ending x ram = record { number = x .number; words = x .words; value = x .value; registers = x .registers; ram = ram }

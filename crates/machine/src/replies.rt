@@ -1,9 +1,9 @@
-// What a call answers.
+// What a call hands back.
 use device::Registers;
 
 // The reply's number, words done and value, and the registers after the call.
 #[repr(C)]
-pub struct Answer {
+pub struct AfterEvent {
     pub number: u8,
     pub words: u16,
     pub value: u16,

@@ -2,7 +2,7 @@
 ghost use mathlib.Core.Path.{_≡_};
 ghost use Rattle.machine.specs.Replies.{ending};
 ghost use Rattle.machine.specs.Run.{ran};
-use crate::replies::Answer;
+use crate::replies::AfterEvent;
 use device::Registers;
 
 // So many words, or those before the first that is refused.
@@ -12,17 +12,17 @@ pub(crate) fn run(
     rom: &[u16],
     ram: &mut [u16],
     count: u16,
-) -> Answer
+) -> AfterEvent
     ensures { λ x. ⌜ ending x (now (ram .exit)) ≡ ran count 0 registers (now (program .entry)) (now (rom .entry)) (now (ram .entry)) ⌝ }
 {
     let mut q = registers;
     let mut words: u16 = 0;
     while words < count {
-        let stepped = words::one_word(q, program, rom, ram);
-        let number = stepped.number;
-        let after = stepped.registers;
+        let done = words::one_word(q, program, rom, ram);
+        let number = done.number;
+        let after = done.registers;
         if number != 0 {
-            return Answer {
+            return AfterEvent {
                 number,
                 words,
                 value: 0,
@@ -32,7 +32,7 @@ pub(crate) fn run(
         q = after;
         words += 1;
     }
-    Answer {
+    AfterEvent {
         number: 0,
         words,
         value: 0,

@@ -1,6 +1,6 @@
 -- The destination: 01, "Destinations keep the low bits they hold ..".
 use Prim.Native.Nat.{ℕ, _+_}
-use mathlib.Core.Bool.{true, false}
+use mathlib.Core.Bool.{true, false, cond}
 use mathlib.Core.List.{List}
 use lib.ListN.{set}
 use Rattle.numbers.specs.Bits.{bits, at}
@@ -11,56 +11,42 @@ use Rattle.device.specs.Set.{set-a, set-b, set-k, set-l, set-tr, set-dr, set-so
 use Rattle.device.specs.declared.pointers.RamPointer.{RamPointer}
 use Rattle.device.specs.declared.pointers.RomPointer.{RomPointer}
 use Rattle.device.specs.declared.registers.Registers.{Registers}
-use Rattle.device.specs.Lent.{cellAt}
+use Rattle.device.specs.Lent.{romAt, ramAt}
 use Rattle.status.specs.Status.{withRqm, statusLoaded}
-use Rattle.stages.specs.declared.codes.Destination.{Destination}
-use Rattle.stages.specs.declared.codes.Destination.the-variants as Destination
+use Rattle.codes.specs.Codes.{destinationCode, isDestination}
+use Rattle.codes.specs.declared.Destination.{Destination}
+use Rattle.codes.specs.declared.Destination.the-variants as Dst
 
 -- "both set SORQ and clear SOACK"
 abbrev pub sent : Registers → ℕ → Registers
 sent q word = set-soack (set-sorq (set-so q word) true) false
 
 -- "RAM at DP with bit 6 set to 1": the address has bit 6 set
-abbrev pub klmAddress : RamPointer → ℕ
-klmAddress dp = at 7 (bits (dp .0) 15 7) + at 6 1 + bits (dp .0) 5 0
+abbrev pub klmAddress : RamPointer → RamPointer
+klmAddress dp = record { 0 = at 7 (bits (dp .0) 15 7) + at 6 1 + bits (dp .0) 5 0 }
 
 -- q with the bus in the destination. dp, rp and ram are those before the word, and so is SR but for RQM, which is 1 if DR was the source
 unfoldable pub loaded : RamPointer → RomPointer → Registers → Destination → ℕ → List ℕ → List ℕ → Registers
-loaded dp rp q Destination.None bus ram rom = q
-loaded dp rp q Destination.A bus ram rom = set-a q bus
-loaded dp rp q Destination.B bus ram rom = set-b q bus
-loaded dp rp q Destination.Tr bus ram rom = set-tr q bus
-loaded dp rp q Destination.Dp bus ram rom = set-dp q (ramPointerOf upd77p20 bus)
-loaded dp rp q Destination.Rp bus ram rom = set-rp q (romPointerOf upd77p20 bus)
+loaded dp rp q Dst.None bus ram rom = q
+loaded dp rp q Dst.A bus ram rom = set-a q bus
+loaded dp rp q Dst.B bus ram rom = set-b q bus
+loaded dp rp q Dst.Tr bus ram rom = set-tr q bus
+loaded dp rp q Dst.Dp bus ram rom = set-dp q (ramPointerOf upd77p20 bus)
+loaded dp rp q Dst.Rp bus ram rom = set-rp q (romPointerOf upd77p20 bus)
 -- "DR sets RQM"
-loaded dp rp q Destination.Dr bus ram rom = set-sr (set-dr q bus) (withRqm (q .sr))
-loaded dp rp q Destination.Sr bus ram rom = set-sr q (statusLoaded (q .sr) bus)
+loaded dp rp q Dst.Dr bus ram rom = set-sr (set-dr q bus) (withRqm (q .sr))
+loaded dp rp q Dst.Sr bus ram rom = set-sr q (statusLoaded (q .sr) bus)
 -- "SOM stores the bus, SOL the bus reversed"
-loaded dp rp q Destination.Sol bus ram rom = sent q (reversed16 bus)
-loaded dp rp q Destination.Som bus ram rom = sent q bus
-loaded dp rp q Destination.K bus ram rom = set-k q bus
+loaded dp rp q Dst.Sol bus ram rom = sent q (reversed16 bus)
+loaded dp rp q Dst.Som bus ram rom = sent q bus
+loaded dp rp q Dst.K bus ram rom = set-k q bus
 -- "KLR: K from bus, L from data ROM at RP times 8. KLM: L from bus, K from RAM at DP with bit 6 set to 1"
-loaded dp rp q Destination.Klr bus ram rom = set-l (set-k q bus) (cellValue upd77p20 (cellAt rom (rp .0)))
-loaded dp rp q Destination.Klm bus ram rom = set-l (set-k q (cellAt ram (klmAddress dp))) bus
-loaded dp rp q Destination.L bus ram rom = set-l q bus
-loaded dp rp q Destination.None14 bus ram rom = q
-loaded dp rp q Destination.Mem bus ram rom = q
+loaded dp rp q Dst.Klr bus ram rom = set-l (set-k q bus) (cellValue upd77p20 (romAt rom rp))
+loaded dp rp q Dst.Klm bus ram rom = set-l (set-k q (ramAt ram (klmAddress dp))) bus
+loaded dp rp q Dst.L bus ram rom = set-l q bus
+loaded dp rp q Dst.None14 bus ram rom = q
+loaded dp rp q Dst.Mem bus ram rom = q
 
--- "MEM: RAM at DP"; every other destination leaves the RAM
+-- "MEM: RAM at DP"
 unfoldable pub ramLoaded : RamPointer → Destination → ℕ → List ℕ → List ℕ
-ramLoaded dp Destination.Mem bus ram = set ram (dp .0) bus
-ramLoaded dp Destination.None bus ram = ram
-ramLoaded dp Destination.A bus ram = ram
-ramLoaded dp Destination.B bus ram = ram
-ramLoaded dp Destination.Tr bus ram = ram
-ramLoaded dp Destination.Dp bus ram = ram
-ramLoaded dp Destination.Rp bus ram = ram
-ramLoaded dp Destination.Dr bus ram = ram
-ramLoaded dp Destination.Sr bus ram = ram
-ramLoaded dp Destination.Sol bus ram = ram
-ramLoaded dp Destination.Som bus ram = ram
-ramLoaded dp Destination.K bus ram = ram
-ramLoaded dp Destination.Klr bus ram = ram
-ramLoaded dp Destination.Klm bus ram = ram
-ramLoaded dp Destination.L bus ram = ram
-ramLoaded dp Destination.None14 bus ram = ram
+ramLoaded dp d bus ram = cond (isDestination (destinationCode d) Dst.Mem) (set ram (dp .0) bus) ram

@@ -1,4 +1,3 @@
-pub mod Codes
 pub mod Bus
 pub mod Accumulators
 pub mod Destinations

@@ -8,14 +8,16 @@ use Rattle.device.specs.declared.pointers.RamPointer.{RamPointer}
 use Rattle.device.specs.declared.pointers.RomPointer.{RomPointer}
 use Rattle.device.specs.declared.registers.Registers.{Registers}
 use Rattle.word.specs.declared.OpFields.{OpFields}
+use Rattle.codes.specs.Codes.{isDestination}
+use Rattle.codes.specs.declared.Destination.the-variants as Dst
 
--- DP after the word: what was loaded, if DST is DP (4), else dp moved. "Both are ignored if DST is DP"
+-- DP after the word: what was loaded, if DST is DP, else dp moved. "Both are ignored if DST is DP"
 abbrev pub dpAfter : RamPointer → RamPointer → OpFields → RamPointer
-dpAfter dp held f = cond (eqb (f .dst) 4) held (ramPointerMoved (f .dpl) (f .dphm) dp)
+dpAfter dp kept f = cond (isDestination (f .dst) Dst.Dp) kept (ramPointerMoved (f .dpl) (f .dphm) dp)
 
--- RP after the word: "RPDCR takes one from RP, .. ignored if DST is RP" (5)
+-- RP after the word: "RPDCR takes one from RP, .. ignored if DST is RP"
 abbrev pub rpAfter : RomPointer → RomPointer → OpFields → RomPointer
-rpAfter rp held f = cond (eqb (f .dst) 5) held (cond (eqb (f .rpdcr) 0) rp (romPointerDown upd77p20 rp))
+rpAfter rp kept f = cond (isDestination (f .dst) Dst.Rp) kept (cond (eqb (f .rpdcr) 0) rp (romPointerDown upd77p20 rp))
 
 -- q with its pointers moved; dp and rp are those before the word
 unfoldable pub pointed : RamPointer → RomPointer → Registers → OpFields → Registers

@@ -1,7 +1,7 @@
 // What a source puts on the bus, and what reading it leaves behind.
 ghost use mathlib.Core.Path.{_≡_};
 ghost use Rattle.stages.specs.Bus.{busOf, readFrom};
-use crate::codes::Source;
+use codes::Source;
 use device::Registers;
 use device::Upd77p20;
 

@@ -2,7 +2,7 @@
 ghost use mathlib.Core.Path.{_≡_};
 ghost use lib.ListN.{set};
 ghost use Rattle.stages.specs.Destinations.{klmAddress, loaded, ramLoaded};
-use crate::codes::Destination;
+use codes::Destination;
 use device::RamPointer;
 use device::Registers;
 use device::RomPointer;
@@ -10,7 +10,7 @@ use device::Upd77p20;
 
 // DP with bit 6 set.
 fn klm_address(dp: RamPointer) -> u16
-    ensures { λ r. ⌜ r ≡ klmAddress dp ⌝ }
+    ensures { λ r. ⌜ r ≡ klmAddress dp .0 ⌝ }
 {
     dp.0 / 0x80 % 0x200 * 0x80 + 0x40 + dp.0 % 0x40
 }

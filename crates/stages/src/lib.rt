@@ -2,14 +2,11 @@
 // Each is defined for every input; which words are refused is said elsewhere.
 mod accumulators;
 mod bus;
-mod codes;
 mod destinations;
 mod pointing;
 
 pub use accumulators::accumulate;
 pub use bus::bus_value;
 pub use bus::read_from;
-pub use codes::Destination;
-pub use codes::Source;
 pub use destinations::load;
 pub use pointing::point;

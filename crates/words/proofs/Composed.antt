@@ -13,9 +13,9 @@ use Rattle.word.specs.Fields.{opFields, jpFields, ldiFields}
 use Rattle.word.specs.Word.{wordOf, takenApart}
 use Rattle.word.specs.declared.OpFields.{OpFields}
 use Rattle.word.specs.declared.LdiFields.{LdiFields}
-use Rattle.stages.specs.Codes.{sourceOf, destinationOf}
-use Rattle.stages.specs.declared.codes.Source.{Source}
-use Rattle.stages.specs.declared.codes.Destination.{Destination}
+use Rattle.codes.specs.Codes.{sourceOf, destinationOf}
+use Rattle.codes.specs.declared.Source.{Source}
+use Rattle.codes.specs.declared.Destination.{Destination}
 use Rattle.stages.specs.Bus.{busOf, readFrom}
 use Rattle.stages.specs.Accumulators.{accumulated}
 use Rattle.stages.specs.Destinations.{loaded, ramLoaded}
@@ -23,10 +23,11 @@ use Rattle.stages.specs.Pointing.{pointed}
 use Rattle.stages.proofs.Keeping.{accumulated-read, read-pointers, accumulated-pointers, pointed-loaded}
 use Rattle.words.specs.Outcomes.{refusedWord, finishedWord}
 use Rattle.words.specs.Refusals.{opRefusal, ldiRefusal}
-use Rattle.words.specs.Operation.{opBus, opPointed, opRam, left, opWord}
-use Rattle.words.specs.Load.{ldiRegisters, ldiWord}
+use Rattle.words.specs.Operation.{opBus, opRegisters, opRam, pcMoved, opWord}
+use Rattle.words.specs.Load.{ldiRegisters, ldiRam, ldiWord}
 use Rattle.words.specs.Jump.{jpWord}
 use Rattle.words.specs.Word.{fetchedDone}
+use Rattle.words.proofs.Between.{opPointed}
 
 -- ---- an OP or RT word
 
@@ -35,11 +36,11 @@ module _ (rt : Bool) (r : Registers) (f : OpFields) (ram rom : List ℕ) {n : �
   unfolding opWord
   op-refused h = rw (← number, ne-eqb n 0 h)
 
-  pub op-finished : n ≡ 0 → finishedWord (left rt (opPointed r f ram rom)) (opRam r f ram rom) ≡ opWord rt r f ram rom
+  pub op-finished : n ≡ 0 → finishedWord (opRegisters rt r f ram rom) (opRam r f ram rom) ≡ opWord rt r f ram rom
   unfolding opWord
   op-finished e = rw (← number, e)
 
--- The stages one after another, each reading what the one before it handed on, give what the definition reads from the state before the word.
+-- the stages one after another, each reading what the one before it handed on, give what the definition reads from the state before the word.
 module _ (r : Registers) (f : OpFields) (ram rom : List ℕ) where
   abbrev read : Registers
   read = readFrom r (sourceOf (f .src))
@@ -73,10 +74,10 @@ module _ (rt : Bool) (r : Registers) (f : OpFields) (ram rom : List ℕ) {n : �
   pub op-composed : {bus : ℕ} {q₁ q₂ q₃ q₄ q₅ : Registers} {after : List ℕ}
       → bus ≡ busOf r source ram rom → q₁ ≡ readFrom r source → q₂ ≡ accumulated q₁ q₁ f bus ram
       → q₃ ≡ loaded (q₂ .dp) (q₂ .rp) q₂ destination bus ram rom → after ≡ ramLoaded (q₂ .dp) destination bus ram
-      → q₄ ≡ pointed (q₃ .dp) (q₃ .rp) q₃ f → q₅ ≡ left rt q₄ → finishedWord q₅ after ≡ opWord rt r f ram rom
+      → q₄ ≡ pointed (q₃ .dp) (q₃ .rp) q₃ f → q₅ ≡ pcMoved rt q₄ → finishedWord q₅ after ≡ opWord rt r f ram rom
   op-composed eb e₁ e₂ e₃ ea e₄ e₅ =
       rw (e₅, e₄, e₃, ea, e₂, e₁, eb, s, d)
-      ((λ i. finishedWord (left rt (op-staged r f ram rom i)) (op-stored r f ram rom i)) ∙ op-finished rt r f ram rom number none)
+      ((λ i. finishedWord (pcMoved rt (op-staged r f ram rom i)) (op-stored r f ram rom i)) ∙ op-finished rt r f ram rom number none)
 
 -- ---- an LDI word
 
@@ -85,7 +86,7 @@ module _ (r : Registers) (f : LdiFields) (ram rom : List ℕ) {n : ℕ} (number 
   unfolding ldiWord
   ldi-refused h = rw (← number, ne-eqb n 0 h)
 
-  pub ldi-finished : n ≡ 0 → finishedWord (ldiRegisters r f ram rom) (ramLoaded (r .dp) (destinationOf (f .dst)) (f .id) ram) ≡ ldiWord r f ram rom
+  pub ldi-finished : n ≡ 0 → finishedWord (ldiRegisters r f ram rom) (ldiRam r f ram) ≡ ldiWord r f ram rom
   unfolding ldiWord
   ldi-finished e = rw (← number, e)
 

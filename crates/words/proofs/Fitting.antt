@@ -18,20 +18,21 @@ use Rattle.device.specs.declared.pointers.RomPointer.{RomPointer}
 use Rattle.device.specs.declared.registers.Registers.{Registers}
 use Rattle.device.proofs.Widths.{nextAddress-fits, romPointerDown-fits, romPointerOf-fits, ramPointerOf-fits, ramPointerMoved-fits}
 use Rattle.word.specs.declared.OpFields.{OpFields}
-use Rattle.stages.specs.Accumulators.{blocked, accumulated}
+use Rattle.stages.specs.Accumulators.{choosesA, blocked, accumulated}
 use Rattle.stages.specs.Bus.{readFrom}
+use Rattle.codes.specs.Codes.{isDestination}
+use Rattle.stages.proofs.Keeping.{of-read}
 use Rattle.stages.specs.Destinations.{loaded}
 use Rattle.stages.specs.Pointing.{pointed}
 use Rattle.flow.specs.Stack.{pushed, stackCell, popped, stepped}
 use Rattle.status.specs.Status.{withRqm, withoutRqm, withDrs, withoutDrs, withoutEi, statusLoaded}
-use Rattle.stages.specs.declared.codes.Source.{Source}
-use Rattle.stages.specs.declared.codes.Source.the-variants as Source
-use Rattle.stages.specs.declared.codes.Destination.{Destination}
-use Rattle.stages.specs.declared.codes.Destination.the-variants as Destination
+use Rattle.codes.specs.declared.Source.{Source}
+use Rattle.codes.specs.declared.Destination.{Destination}
+use Rattle.codes.specs.declared.Destination.the-variants as Dst
 
 -- SR bits 6 to 2 are 0
 abbrev pub SrFits : ℕ → Type 0
-SrFits sr = sr / 4 % 32 ≡ 0
+SrFits sr = bits sr 6 2 ≡ 0
 
 -- the registers of limited width alone, so that what sets another register needs no new proof
 pub record FitAt (pc stack0 stack1 stack2 stack3 dp rp depth sr : ℕ) : Type 0 where
@@ -104,53 +105,37 @@ module _ (sr : ℕ) (h : SrFits sr) where
 -- ---- the stages
 
 pub read-fit : (r : Registers) (s : Source) → Fit r → Fit (readFrom r s)
-unfolding readFrom
-read-fit r Source.None h = h
-read-fit r Source.A h = h
-read-fit r Source.B h = h
-read-fit r Source.Tr h = h
-read-fit r Source.Dp h = h
-read-fit r Source.Rp h = h
-read-fit r Source.Ro h = h
-read-fit r Source.Sgn h = h
-read-fit r Source.Dr h = fit-sr h (withRqm-fits (r .sr) (h .sr-fits))
-read-fit r Source.Drnf h = h
-read-fit r Source.Sr h = h
-read-fit r Source.Sim h = h
-read-fit r Source.Sil h = h
-read-fit r Source.K h = h
-read-fit r Source.L h = h
-read-fit r Source.Mem h = h
+read-fit r s h = of-read r s Fit h (fit-sr h (withRqm-fits (r .sr) (h .sr-fits))) h
 
 pub accumulated-fit : (r q : Registers) (f : OpFields) (bus : ℕ) (ram : List ℕ) → Fit q → Fit (accumulated r q f bus ram)
 unfolding accumulated
-accumulated-fit r q f bus ram h = of-cond Fit (blocked f) h (of-cond Fit (eqb (f .asl) 0) h h)
+accumulated-fit r q f bus ram h = of-cond Fit (blocked f) h (of-cond Fit (choosesA f) h h)
 
 pub loaded-fit : (dp : RamPointer) (rp : RomPointer) (q : Registers) (d : Destination) (bus : ℕ) (ram rom : List ℕ) → Fit q → Fit (loaded dp rp q d bus ram rom)
 unfolding loaded
-loaded-fit dp rp q Destination.None bus ram rom h = h
-loaded-fit dp rp q Destination.A bus ram rom h = h
-loaded-fit dp rp q Destination.B bus ram rom h = h
-loaded-fit dp rp q Destination.Tr bus ram rom h = h
-loaded-fit dp rp q Destination.Dp bus ram rom h = fit-dp h (ramPointerOf-fits upd77p20 (omega arith) bus)
-loaded-fit dp rp q Destination.Rp bus ram rom h = fit-rp h (romPointerOf-fits upd77p20 (omega arith) bus)
-loaded-fit dp rp q Destination.Dr bus ram rom h = fit-sr h (withRqm-fits (q .sr) (h .sr-fits))
-loaded-fit dp rp q Destination.Sr bus ram rom h = fit-sr h (statusLoaded-fits (q .sr) (h .sr-fits) bus)
-loaded-fit dp rp q Destination.Sol bus ram rom h = h
-loaded-fit dp rp q Destination.Som bus ram rom h = h
-loaded-fit dp rp q Destination.K bus ram rom h = h
-loaded-fit dp rp q Destination.Klr bus ram rom h = h
-loaded-fit dp rp q Destination.Klm bus ram rom h = h
-loaded-fit dp rp q Destination.L bus ram rom h = h
-loaded-fit dp rp q Destination.None14 bus ram rom h = h
-loaded-fit dp rp q Destination.Mem bus ram rom h = h
+loaded-fit dp rp q Dst.None bus ram rom h = h
+loaded-fit dp rp q Dst.A bus ram rom h = h
+loaded-fit dp rp q Dst.B bus ram rom h = h
+loaded-fit dp rp q Dst.Tr bus ram rom h = h
+loaded-fit dp rp q Dst.Dp bus ram rom h = fit-dp h (ramPointerOf-fits upd77p20 (omega arith) bus)
+loaded-fit dp rp q Dst.Rp bus ram rom h = fit-rp h (romPointerOf-fits upd77p20 (omega arith) bus)
+loaded-fit dp rp q Dst.Dr bus ram rom h = fit-sr h (withRqm-fits (q .sr) (h .sr-fits))
+loaded-fit dp rp q Dst.Sr bus ram rom h = fit-sr h (statusLoaded-fits (q .sr) (h .sr-fits) bus)
+loaded-fit dp rp q Dst.Sol bus ram rom h = h
+loaded-fit dp rp q Dst.Som bus ram rom h = h
+loaded-fit dp rp q Dst.K bus ram rom h = h
+loaded-fit dp rp q Dst.Klr bus ram rom h = h
+loaded-fit dp rp q Dst.Klm bus ram rom h = h
+loaded-fit dp rp q Dst.L bus ram rom h = h
+loaded-fit dp rp q Dst.None14 bus ram rom h = h
+loaded-fit dp rp q Dst.Mem bus ram rom h = h
 
 -- DPH-M names one of the 2 ^ 3 rows of RAM
 pub pointed-fit : (dp : RamPointer) (rp : RomPointer) (q : Registers) (f : OpFields) → dp .0 < upd77p20 .ram → rp .0 < upd77p20 .cells → f .dphm < 2 ^ 3 → Fit q → Fit (pointed dp rp q f)
 unfolding pointed
 pointed-fit dp rp q f k l row h =
-    fit-rp (fit-dp h (of-cond In-ram (eqb (f .dst) 4) (h .dp-fits) (ramPointerMoved-fits 3 (f .dpl) (f .dphm) dp k row)))
-    (of-cond In-rom (eqb (f .dst) 5) (h .rp-fits) (of-cond In-rom (eqb (f .rpdcr) 0) l (romPointerDown-fits upd77p20 (omega arith) rp)))
+    fit-rp (fit-dp h (of-cond In-ram (isDestination (f .dst) Dst.Dp) (h .dp-fits) (ramPointerMoved-fits 3 (f .dpl) (f .dphm) dp k row)))
+    (of-cond In-rom (isDestination (f .dst) Dst.Rp) (h .rp-fits) (of-cond In-rom (eqb (f .rpdcr) 0) l (romPointerDown-fits upd77p20 (omega arith) rp)))
   where
     In-ram : RamPointer → Type 0
     In-ram p = p .0 < upd77p20 .ram

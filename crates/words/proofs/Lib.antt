@@ -1,4 +1,6 @@
+pub mod Between
 pub mod Composed
 pub mod Fitting
 pub mod WordFits
 pub mod Frames
+pub mod Unique

@@ -9,12 +9,12 @@ use lib.Dec.{ltb, eqb}
 use Rattle.numbers.proofs.Choices.{of-cond, of-getD}
 use Rattle.numbers.specs.Bits.{bits}
 use Rattle.device.specs.Device.{upd77p20, wordLimit}
-use Rattle.device.specs.Lent.{cellAt}
+use Rattle.device.specs.Lent.{wordAt}
 use Rattle.device.specs.Pointers.{nextAddress}
 use Rattle.device.specs.Registers.{registersFit}
 use Rattle.device.specs.declared.registers.Registers.{Registers}
 use Rattle.device.proofs.Widths.{nextAddress-fits}
-use Rattle.word.specs.Fields.{opFields, jpFields, ldiFields}
+use Rattle.word.specs.Fields.{branch, opFields, jpFields, ldiFields}
 use Rattle.word.specs.Word.{wordOf, takenApart}
 use Rattle.word.specs.declared.OpFields.{OpFields}
 use Rattle.word.specs.declared.JpFields.{JpFields}
@@ -22,15 +22,17 @@ use Rattle.word.specs.declared.LdiFields.{LdiFields}
 use Rattle.word.specs.declared.Taken.{Taken}
 use Rattle.word.specs.declared.Word.{Word}
 use Rattle.word.specs.declared.Word.the-variants.{Op, Rt, Jp}
-use Rattle.stages.specs.Codes.{sourceOf, destinationOf}
+use Rattle.codes.specs.Codes.{sourceOf, destinationOf}
 use Rattle.stages.specs.Destinations.{loaded}
 use Rattle.flow.specs.Conditions.{conditionHolds}
 use Rattle.words.specs.Outcomes.{Outcome}
 use Rattle.words.specs.Refusals.{opRefusal, jpRefusal, ldiRefusal}
-use Rattle.words.specs.Operation.{opBus, opRead, opOperated, opLoaded, opPointed, opWord}
+use Rattle.words.specs.Operation.{opBus, opWord}
 use Rattle.words.specs.Jump.{jpRegisters, jpWord}
 use Rattle.words.specs.Load.{ldiWord}
 use Rattle.words.specs.Word.{rowDone, fetchedDone, wordDone}
+use Rattle.words.specs.OneWord.{WordFits}
+use Rattle.words.proofs.Between.{opRead, opOperated, opLoaded, opPointed}
 use Rattle.words.proofs.Fitting.{Fit, fit-of, fits-of, fit-pc, read-fit, accumulated-fit, loaded-fit, pointed-fit, pushed-fit, popped-fit, stepped-fit}
 
 -- the registers that a word leaves behind fit
@@ -52,7 +54,7 @@ module _ (r : Registers) (rom ram : List ℕ) (h : Fit r) where
   jp-fit f l =
       let called = pushed-fit r (nextAddress upd77p20 (r .pc)) (nextAddress-fits upd77p20 (omega arith) (r .pc)) h in
       let branched = of-cond Fit (conditionHolds r (f .cnd)) (fit-pc h l) (stepped-fit r h) in
-      of-cond FitWord (eqb (jpRefusal r f) 0) (of-cond Fit (eqb (f .brch) 4) (fit-pc h l) (of-cond Fit (eqb (f .brch) 5) (fit-pc called l) branched)) h
+      of-cond FitWord (eqb (jpRefusal r f) 0) (of-cond Fit (eqb (f .brch) (branch .jump)) (fit-pc h l) (of-cond Fit (eqb (f .brch) (branch .call)) (fit-pc called l) branched)) h
 
   ldi-fit : (f : LdiFields) → FitWord (ldiWord r f ram rom)
   unfolding ldiWord
@@ -78,8 +80,8 @@ module _ (r : Registers) (rom ram : List ℕ) (h : Fit r) where
 
   pub word-fit : (program : List ℕ) → FitWord (wordDone r program rom ram)
   unfolding wordDone fetchedDone
-  word-fit program = let w = cellAt program (r .pc .0) in of-cond FitWord (eqb (takenApart w .refusal) 0) (taken-fit w) h
+  word-fit program = let w = wordAt program (r .pc) in of-cond FitWord (eqb (takenApart w .refusal) 0) (taken-fit w) h
 
 -- by the test of refusal 2
-pub word-fits : (r : Registers) (program rom ram : List ℕ) → registersFit upd77p20 r ≡ true → registersFit upd77p20 (wordDone r program rom ram .registers) ≡ true
+pub word-fits : WordFits
 word-fits r program rom ram e = fits-of _ (word-fit r rom ram (fit-of r e) program)

@@ -7,10 +7,11 @@ use Rattle.device.specs.Device.{upd77p20}
 use Rattle.device.specs.Pointers.{nextAddress}
 use Rattle.device.specs.Set.{set-pc}
 use Rattle.device.specs.declared.registers.Registers.{Registers}
+use Rattle.word.specs.Fields.{branch}
 use Rattle.word.specs.declared.JpFields.{JpFields}
 use Rattle.flow.specs.Conditions.{conditionHolds}
 use Rattle.flow.specs.Stack.{pushed, stepped}
-use Rattle.words.specs.Outcomes.{Outcome, refusedWord, finishedWord}
+use Rattle.words.specs.Outcomes.{Outcome, decided}
 use Rattle.words.specs.Refusals.{jpRefusal}
 
 abbrev pub jumped : Registers → ℕ → Registers
@@ -19,11 +20,9 @@ jumped r na = set-pc r (record { 0 = na })
 -- "An untaken jump .. step[s] PC as an OP word does"
 unfoldable pub jpRegisters : Registers → JpFields → Registers
 jpRegisters r f =
-    cond (eqb (f .brch) 4) (jumped r (f .na))
-    (cond (eqb (f .brch) 5) (jumped (pushed r (nextAddress upd77p20 (r .pc))) (f .na))
+    cond (eqb (f .brch) (branch .jump)) (jumped r (f .na))
+    (cond (eqb (f .brch) (branch .call)) (jumped (pushed r (nextAddress upd77p20 (r .pc))) (f .na))
     (cond (conditionHolds r (f .cnd)) (jumped r (f .na)) (stepped r)))
 
 unfoldable pub jpWord : Registers → JpFields → List ℕ → Outcome
-jpWord r f ram =
-    let number = jpRefusal r f in
-    cond (eqb number 0) (finishedWord (jpRegisters r f) ram) (refusedWord number r ram)
+jpWord r f ram = decided (jpRefusal r f) r ram (jpRegisters r f) ram

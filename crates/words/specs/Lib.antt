@@ -4,3 +4,4 @@ pub mod Operation
 pub mod Jump
 pub mod Load
 pub mod Word
+pub mod OneWord

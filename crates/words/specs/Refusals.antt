@@ -5,37 +5,41 @@ use mathlib.Core.List.{List}
 use lib.Dec.{leb, eqb}
 use Rattle.device.specs.Device.{upd77p20, cellLimit}
 use Rattle.device.specs.declared.registers.Registers.{Registers}
-use Rattle.device.specs.Lent.{cellAt}
+use Rattle.device.specs.Lent.{romAt}
+use Rattle.word.specs.Fields.{select, branch}
 use Rattle.word.specs.declared.OpFields.{OpFields}
 use Rattle.word.specs.declared.JpFields.{JpFields}
 use Rattle.word.specs.declared.LdiFields.{LdiFields}
+use Rattle.codes.specs.Codes.{isSource, isDestination}
+use Rattle.codes.specs.declared.Source.the-variants as Src
+use Rattle.codes.specs.declared.Destination.the-variants as Dst
 
--- 5: "BRCH none of 010, 100, 101"
+-- refusal 5: "BRCH none of 010, 100, 101"
 abbrev pub branchUnknown : JpFields → Bool
-branchUnknown f = not (eqb (f .brch) 2 || eqb (f .brch) 4 || eqb (f .brch) 5)
+branchUnknown f = not (eqb (f .brch) (branch .conditional) || eqb (f .brch) (branch .jump) || eqb (f .brch) (branch .call))
 
--- 6: "SRC none in an OP or RT word, and either DST is not 0 or 14, or the ALU operation is 1 to 7 with P-select bus"
+-- refusal 6: "SRC none in an OP or RT word, and either DST is not 0 or 14, or the ALU operation is 1 to 7 with P-select bus"
 abbrev pub sendsBus : OpFields → Bool
-sendsBus f = not (eqb (f .dst) 0 || eqb (f .dst) 14)
+sendsBus f = not (isDestination (f .dst) Dst.None || isDestination (f .dst) Dst.None14)
 
 abbrev pub operatesOnBus : OpFields → Bool
-operatesOnBus f = leb 1 (f .alu) && leb (f .alu) 7 && eqb (f .psel) 1
+operatesOnBus f = leb 1 (f .alu) && leb (f .alu) 7 && eqb (f .psel) (select .bus)
 
 abbrev pub sourceMissing : OpFields → Bool
-sourceMissing f = eqb (f .src) 0 && (sendsBus f || operatesOnBus f)
+sourceMissing f = isSource (f .src) Src.None && (sendsBus f || operatesOnBus f)
 
--- 7: "SRC is RO, or DST is KLR (LDI too), and the data ROM cell at RP is 8192 or more"
+-- refusal 7: "SRC is RO, or DST is KLR (LDI too), and the data ROM cell at RP is 8192 or more"
 abbrev pub cellTooWide : Registers → List ℕ → Bool
-cellTooWide r rom = leb (cellLimit upd77p20) (cellAt rom (r .rp .0))
+cellTooWide r rom = leb (cellLimit upd77p20) (romAt rom (r .rp))
 
 abbrev pub usesCell : OpFields → Bool
-usesCell f = eqb (f .src) 6 || eqb (f .dst) 11
+usesCell f = isSource (f .src) Src.Ro || isDestination (f .dst) Dst.Klr
 
--- 8: "RT at depth 0"
+-- refusal 8: "RT at depth 0"
 abbrev pub nothingToPop : Bool → Registers → Bool
 nothingToPop rt r = rt && eqb (r .depth) 0
 
--- 9: "call, or interrupt taken, at depth 4"
+-- refusal 9: "call, or interrupt taken, at depth 4"
 abbrev pub stackFull : Registers → Bool
 stackFull r = leb (upd77p20 .stack) (r .depth)
 
@@ -48,7 +52,7 @@ opRefusal rt r f rom =
 unfoldable pub jpRefusal : Registers → JpFields → ℕ
 jpRefusal r f =
     cond (branchUnknown f) 5
-    (cond (eqb (f .brch) 5 && stackFull r) 9 0)
+    (cond (eqb (f .brch) (branch .call) && stackFull r) 9 0)
 
 unfoldable pub ldiRefusal : Registers → LdiFields → List ℕ → ℕ
-ldiRefusal r f rom = cond (eqb (f .dst) 11 && cellTooWide r rom) 7 0
+ldiRefusal r f rom = cond (isDestination (f .dst) Dst.Klr && cellTooWide r rom) 7 0

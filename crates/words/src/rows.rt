@@ -4,21 +4,20 @@ ghost use mathlib.Core.List.{List};
 ghost use Prim.Native.Nat.{ℕ};
 ghost use lib.Dec.{leb};
 ghost use Rattle.word.specs.Fields.{opFields, jpFields, ldiFields};
-ghost use Rattle.device.specs.Lent.{cellAt};
 ghost use Rattle.words.specs.Outcomes.{refusedWord, finishedWord, outcome};
-ghost use Rattle.words.specs.Operation.{left, opWord};
+ghost use Rattle.words.specs.Operation.{pcMoved, opWord};
 ghost use Rattle.words.specs.Jump.{jumped, jpWord};
 ghost use Rattle.words.specs.Load.{ldiWord};
 ghost use Rattle.words.specs.Word.{wordDone};
-use crate::outcomes::Stepped;
+use crate::outcomes::AfterWord;
 use crate::refusals::FIRST_RT;
 use crate::refusals::ldi_refusal;
 use crate::refusals::op_refusal;
+use codes::Destination;
+use codes::Source;
 use device::InstructionAddress;
 use device::Registers;
 use device::Upd77p20;
-use stages::Destination;
-use stages::Source;
 
 // The first JP word, and the first LDI word.
 const FIRST_JP: u32 = 2 << 21;
@@ -26,20 +25,20 @@ const FIRST_JP: u32 = 2 << 21;
 const FIRST_LDI: u32 = 3 << 21;
 
 // A refused word leaves the registers as they were.
-fn refuse(number: u8, r: Registers) -> Stepped
+fn refuse(number: u8, r: Registers) -> AfterWord
     ensures { λ x. ⌜ ((ram : List ℕ) → outcome x ram ≡ refusedWord number r ram) ⌝ }
 {
-    Stepped {
+    AfterWord {
         number,
         registers: r,
     }
 }
 
 // Every finished word goes through here.
-fn finish(q: Registers) -> Stepped
+fn finish(q: Registers) -> AfterWord
     ensures { λ x. ⌜ ((ram : List ℕ) → outcome x ram ≡ finishedWord q ram) ⌝ }
 {
-    Stepped {
+    AfterWord {
         number: 0,
         registers: q,
     }
@@ -47,7 +46,7 @@ fn finish(q: Registers) -> Stepped
 
 // The pop of an RT word, or the next word.
 fn leave(r: Registers, w: u32) -> Registers
-    ensures { λ q. ⌜ q ≡ left (leb 2097152 w) r ⌝ }
+    ensures { λ q. ⌜ q ≡ pcMoved (leb 2097152 w) r ⌝ }
 {
     if FIRST_RT <= w {
         return flow::pop(r);
@@ -56,7 +55,7 @@ fn leave(r: Registers, w: u32) -> Registers
 }
 
 // An OP or RT word.
-fn op_word(r: Registers, w: u32, ram: &mut [u16], rom: &[u16]) -> Stepped
+fn op_word(r: Registers, w: u32, ram: &mut [u16], rom: &[u16]) -> AfterWord
     ensures { λ x. ⌜ outcome x (now (ram .exit)) ≡ opWord (leb 2097152 w) r (opFields w) (now (ram .entry)) (now (rom .entry)) ⌝ }
 {
     let number = op_refusal(r, w, rom);
@@ -83,7 +82,7 @@ fn jump(r: Registers, na: u16) -> Registers
 }
 
 // A JP word: a jump, a call, a jump on a condition, or none of these.
-fn jp_word(r: Registers, w: u32) -> Stepped
+fn jp_word(r: Registers, w: u32) -> AfterWord
     ensures { λ x. ⌜ ((ram : List ℕ) → outcome x ram ≡ jpWord r (jpFields w) ram) ⌝ }
 {
     let brch = word::bits(w, 20, 18);
@@ -100,14 +99,15 @@ fn jp_word(r: Registers, w: u32) -> Stepped
             if Upd77p20::STACK <= r.depth {
                 return refuse(9, r);
             }
-            finish(jump(flow::push(r, r.pc.next()), na))
+            let back = r.pc.next();
+            finish(jump(flow::push(r, back), na))
         }
         _ => refuse(5, r),
     }
 }
 
 // An LDI word.
-fn ldi_word(r: Registers, w: u32, ram: &mut [u16], rom: &[u16]) -> Stepped
+fn ldi_word(r: Registers, w: u32, ram: &mut [u16], rom: &[u16]) -> AfterWord
     ensures { λ x. ⌜ outcome x (now (ram .exit)) ≡ ldiWord r (ldiFields w) (now (ram .entry)) (now (rom .entry)) ⌝ }
 {
     let number = ldi_refusal(r, w, rom);
@@ -119,19 +119,11 @@ fn ldi_word(r: Registers, w: u32, ram: &mut [u16], rom: &[u16]) -> Stepped
     finish(flow::step(loaded))
 }
 
-// The word at an address; 0 beyond the image's end.
-fn word_at(program: &[u32], at: InstructionAddress) -> u32
-    ensures { λ r. ⌜ r ≡ cellAt (now (program .entry)) (at .0) ⌝ }
-{
-    let i = at.0 as usize;
-    if i < program.len() { program[i] } else { 0 }
-}
-
 // The word at PC, refused or done. D22-21 tell the rows apart, so each row is a range of words.
-pub fn one_word(r: Registers, program: &[u32], rom: &[u16], ram: &mut [u16]) -> Stepped
+pub fn one_word(r: Registers, program: &[u32], rom: &[u16], ram: &mut [u16]) -> AfterWord
     ensures { λ x. ⌜ outcome x (now (ram .exit)) ≡ wordDone r (now (program .entry)) (now (rom .entry)) (now (ram .entry)) ⌝ }
 {
-    let w = word_at(program, r.pc);
+    let w = r.pc.word(program);
     if w < FIRST_JP {
         return op_word(r, w, ram, rom);
     }

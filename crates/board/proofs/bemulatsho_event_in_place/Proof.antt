@@ -40,18 +40,18 @@ use denote.Triple.Table.{entered, cited}
 use denote.Triple.Walked.{says, Stays, stay-ref, stay-dropped, gave-slice, walkOf, AllGo, goes-dropped, goes-gave-slice, goes-ref, Walks, ends-at, walked, walk-meets}
 use denote.Exit.{yes}
 use Rattle.machine.specs.Events.{eventDone}
-use Rattle.board.specs.InPlace.{leaves}
+use Rattle.board.specs.InPlace.{endingInPlace}
 use Rattle.device.specs.declared.registers.Registers.{Registers}
 use Rattle.board.specs.declared.Event.{Event}
-use Rattle.board.specs.declared.Answered.{Answered}
+use Rattle.board.specs.declared.AfterCall.{AfterCall}
 use Rattle.device.proofs.registers.Registers as R
 use Rattle.device.proofs.registers.Registers.Laws as R′
 use Rattle.board.proofs.Event as E
 use Rattle.board.proofs.Event.Laws as E′
 use Rattle.board.proofs.Reply as P
 use Rattle.board.proofs.Reply.Laws as P′
-use Rattle.board.proofs.Answered as Q
-use Rattle.board.proofs.Answered.Laws as Q′
+use Rattle.board.proofs.AfterCall as Q
+use Rattle.board.proofs.AfterCall.Laws as Q′
 use Rattle.board.proofs.by_value as g
 use Rattle.board.proofs.by_value.Symbol as g-def
 use Rattle.board.proofs.by_value.Symbol.{name as #board·by-value}
@@ -99,13 +99,13 @@ module _ {M : Type 1} (𝓤 : URA M) (H : Heap 𝓤) (A : Atoms 𝓤) (W : Given
   Post = walkOf 𝓤 H A f.ended stayed (f.clauses 𝓤 H A at-mem run) .post (((κ, (κ₁, (κ₂, (κ₃, tt)))), (q, (q₁, (q₂, (q₃, tt)))), tt, x, at), tt)
 
   -- what the twin is to say, and the tokens that it is lent
-  abbrev Said : Answered → List ℕ → Type 0
-  Said r zs = leaves (r .reply) (r .registers) zs ≡ eventDone h (p .now) (d .now) (m .now) (e .kind) (e .value)
+  abbrev Said : AfterCall → List ℕ → Type 0
+  Said r zs = endingInPlace (r .reply) (r .registers) zs ≡ eventDone h (p .now) (d .now) (m .now) (e .kind) (e .value)
 
   abbrev tokens : Item 𝓤
   tokens = ‵ (flft κ₁ q₁) ⊛ ‵ (flft κ₂ q₂) ⊛ ‵ (flft κ₃ q₃) ⊛ ‵ ftrue
 
-  exits : (r : Answered) (zs : List ℕ) → length zs ≡ length (m .now) → Is P.the-row (r .reply) (LL.vals P.the-type P′.the-laws (r .reply)) → Said r zs
+  exits : (r : AfterCall) (zs : List ℕ) → length zs ≡ length (m .now) → Is P.the-row (r .reply) (LL.vals P.the-type P′.the-laws (r .reply)) → Said r zs
       → ent 𝓤 (⋆ 𝓤 H A (‵ (fobs γ (R.the-row .coded .code (r .registers))) ∷ ‵ (fbor κ (Body (mem R.the-row) b o γ)) ∷ ‵ (flft κ q) ∷ tokens ∷ ‵ (finally u16 (m .name) zs) ∷ [])) (Post (LL.val P.the-type P′.the-laws (r .reply)))
   exits r zs l is-p said =
       qed W (‵ (fobs γ (R.the-row .coded .code (r .registers))) ∷ ‵ (fbor κ (Body (mem R.the-row) b o γ)) ∷ ‵ (flft κ q) ∷ tokens ∷ ‵ (finally u16 (m .name) zs) ∷ []) ∵
@@ -150,7 +150,7 @@ module _ {M : Type 1} (𝓤 : URA M) (H : Heap 𝓤) (A : Atoms 𝓤) (W : Given
         move ! (26 ∷ 27 ∷ []) $ use2 W (raw (Twin 𝓤 H A at-mem run .pre to-g)) (goes-g is-h) $
         calls-at ! fm (Twin 𝓤 H A at-mem run) known to-g
         (and-then ! (load ! (from ! (stop !)) (look ! 13 refl)) (and-then ! (load ! (from ! (stop !)) (look ! 21 refl)) (and-then ! (load ! (from ! (stop !)) (look ! 19 refl)) (and-then ! (load ! (from ! (stop !)) (look ! 5 refl)) (and-then ! (load ! (from ! (stop !)) (look ! 15 refl)) (no-more !)))))) (λ v.
-        use1 W (later (some (λ (r : Answered). (tokens ⊛ ‵ (Q.the-row .own r (v ∷ []))) ⊛ raw (ensured 𝓤 H A g.ended (g.clauses 𝓤 H A at-mem run) (κ₁, (κ₂, (κ₃, tt))) (h, (p, (d, (m, (e, tt))))) tt r)))) (id⊢ 𝓤 _) $ await ! tt $ pick ! (λ r.
+        use1 W (later (some (λ (r : AfterCall). (tokens ⊛ ‵ (Q.the-row .own r (v ∷ []))) ⊛ raw (ensured 𝓤 H A g.ended (g.clauses 𝓤 H A at-mem run) (κ₁, (κ₂, (κ₃, tt))) (h, (p, (d, (m, (e, tt))))) tt r)))) (id⊢ 𝓤 _) $ await ! tt $ pick ! (λ r.
         split ! $ move ! (1 ∷ []) $ use1 W (some (λ (zs : Ends). ‵ (lasts g.ended (κ₁, (κ₂, (κ₃, tt))) (h, (p, (d, (m, (e, tt))))) zs) ⊛ raw (fact 𝓤 (Said r (zs .1 .1 .1 .0))))) (id⊢ 𝓤 _) $ pick ! (λ zs.
         split ! $ move ! (1 ∷ []) $ heard ! (Said r (zs .1 .1 .1 .0)) (λ said. fsplit ! $ drop ! $ fsplit ! $ drop ! $ fsplit ! $ drop ! $ fsplit ! $ fsplit ! $ move ! (1 ∷ []) $ feqL ! (λ l. move ! (1 ∷ []) $ drop ! $
         -- [the RAM's last cells; the tokens with the answer; the record's cell; …]

@@ -1,6 +1,5 @@
 -- `accumulate`: which of the four ways it goes is what the fields say.
 -- Assumes nothing.
-use Prim.Native.Nat.{_+_}
 use native.Mathlib.Omega.{arith}
 use mathlib.Core.Path.{sym}
 use borrow.Author.Needs.{needs}
@@ -9,7 +8,7 @@ use denote.Ref.{now}
 use Rattle.numbers.specs.Bits.{bits}
 use Rattle.word.specs.Fields.{opFields}
 use Rattle.stages.specs.Accumulators.{accumulated}
-use Rattle.stages.proofs.Keeping.{accumulated-idle}
+use Rattle.stages.proofs.Keeping.{blocked-true, blocked-false, accumulated-idle}
 use Rattle.stages.proofs.accumulators.accumulate.Statement.{statement}
 use Rattle.stages.proofs.accumulators.accumulate.Tie as tie
 
@@ -22,7 +21,7 @@ returns-2 : tie.Need-returns-2
 unfolding accumulated
 returns-2 c =
     let w = c .before .before .before .before .before .before .args .w in
-    rw (eq-eqb (bits w 14 14 + 1) (bits w 3 0) (omega arith))
+    rw (blocked-true (opFields w) (omega arith) (omega arith))
 
 returns-3 : tie.Need-returns-3
 unfolding accumulated
@@ -34,7 +33,7 @@ returns-3 c =
       c .before .before .before .operand .ensures,
       c .before .before .before .before .bits4 .ensures,
       c .before .before .before .before .before .before .before .before .before .bits .ensures,
-      ne-eqb (bits w 14 14 + 1) (bits w 3 0) (λ e. omega (arith, c .before .before .before .before .before .if2 .left)),
+      blocked-false (opFields w) (omega arith) (λ e. omega (arith, c .before .before .before .before .before .if2 .left)),
       eq-eqb (bits w 14 14) 0 (omega arith),
     )
 
@@ -48,7 +47,7 @@ returns-4 c =
       c .before .before .before .operand .ensures,
       c .before .before .before .before .bits4 .ensures,
       c .before .before .before .before .before .before .before .before .before .bits .ensures,
-      ne-eqb (bits w 14 14 + 1) (bits w 3 0) (λ e. omega (arith, c .before .before .before .before .before .if2 .left)),
+      blocked-false (opFields w) (omega arith) (λ e. omega (arith, c .before .before .before .before .before .if2 .left)),
       ne-eqb (bits w 14 14) 0 (λ e. omega (arith, c .before .if3 .left)),
     )
 

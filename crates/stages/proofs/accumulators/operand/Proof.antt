@@ -6,7 +6,7 @@ use mathlib.Core.List.{[], _∷_}
 use lib.ListN.{List·getD-eq-default}
 use denote.Ref.{now}
 use Rattle.multiplier.specs.Product.{mOf, nOf}
-use Rattle.device.specs.Lent.{cellAt}
+use Rattle.device.specs.Lent.{ramAt}
 use Rattle.stages.specs.Accumulators.{operandOf}
 use borrow.Author.Needs.{needs}
 use Rattle.stages.proofs.accumulators.operand.Statement.{statement}
@@ -23,7 +23,7 @@ unfolding operandOf
 returns-2 c =
     let s = c .before .before .before .before .args in
     rw (c .n .ensures)
-    (sym (List·getD-eq-default (cellAt (now (s .ram)) (s .r .dp .0) ∷ s .bus ∷ mOf (s .r .k) (s .r .l) ∷ []) (nOf (s .r .k) (s .r .l)) {n = s .psel} (omega arith)))
+    (sym (List·getD-eq-default (ramAt (now (s .ram)) (s .r .dp) ∷ s .bus ∷ mOf (s .r .k) (s .r .l) ∷ []) (nOf (s .r .k) (s .r .l)) {n = s .psel} (omega arith)))
 
 returns-3 : tie.Need-returns-3
 unfolding operandOf

@@ -6,9 +6,9 @@ use mathlib.Core.List.{List, [], _∷_}
 use types.Run.{OneOf, miss}
 use denote.Enum.Declared.{tagOf}
 use Rattle.device.specs.declared.registers.Registers.{Registers}
-use Rattle.stages.proofs.codes.Source.{the-type}
-use Rattle.stages.specs.declared.codes.Source.{Source}
-use Rattle.stages.specs.declared.codes.Source.the-variants as Source
+use Rattle.codes.proofs.Source.{the-type}
+use Rattle.codes.specs.declared.Source.{Source}
+use Rattle.codes.specs.declared.Source.the-variants as Source
 use Rattle.stages.specs.Bus.{readFrom}
 use borrow.Author.Needs.{needs}
 use Rattle.stages.proofs.bus.read_from.Statement.{statement}

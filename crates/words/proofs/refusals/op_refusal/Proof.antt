@@ -1,6 +1,7 @@
 -- `op_refusal`: the definition's three tests in their order.
 -- Assumes nothing.
-use mathlib.Core.Path.{_≡_, refl, sym, ap, _∙_}
+use mathlib.Core.Path.{_≡_, sym, ap, _∙_}
+use mathlib.Core.Bool.{Bool, cond}
 use Rattle.words.specs.Refusals.{opRefusal}
 use borrow.Author.Needs.{needs}
 use Rattle.words.proofs.refusals.op_refusal.Statement.{statement}
@@ -16,11 +17,13 @@ returns-2 c = rw (sym (c .before .before .before .source-missing .ensures) ∙ c
 
 returns-3 : tie.Need-returns-3
 unfolding opRefusal
-returns-3 c = rw (sym (c .before .before .before .before .before .source-missing .ensures) ∙ c .before .before .before .before .if1 .left, sym (c .before .before .before .cell-refused .ensures) ∙ c .before .before .if2 .left, c .if3 .taken)
+returns-3 c = rw (sym (c .before .before .before .before .before .source-missing .ensures) ∙ c .before .before .before .before .if1 .left, sym (c .before .before .before .cell-refused .ensures) ∙ c .before .before .if2 .left)
+    (sym (ap (λ (t : Bool). cond t 8 0) (c .if3 .taken)))
 
 returns-4 : tie.Need-returns-4
 unfolding opRefusal
-returns-4 c = rw (sym (c .before .before .before .before .before .source-missing .ensures) ∙ c .before .before .before .before .if1 .left, sym (c .before .before .before .cell-refused .ensures) ∙ c .before .before .if2 .left, c .if3 .left)
+returns-4 c = rw (sym (c .before .before .before .before .before .source-missing .ensures) ∙ c .before .before .before .before .if1 .left, sym (c .before .before .before .cell-refused .ensures) ∙ c .before .before .if2 .left)
+    (sym (ap (λ (t : Bool). cond t 8 0) (c .if3 .left)))
 
 pub op-refusal-spec : {M : Type 1} → statement M
 op-refusal-spec =

@@ -2,9 +2,12 @@
 -- Assumes nothing.
 use native.Mathlib.Omega.{arith}
 use mathlib.Core.Path.{_≡_, refl, sym, ap, _∙_}
-use borrow.Author.Tests.{eq-eqb, ne-eqb, le-leb, lt-leb, lt-ltb, le-ltb}
+use borrow.Author.Tests.{ne-eqb, le-leb, lt-leb}
 use Rattle.numbers.specs.Bits.{bits}
-use Rattle.words.specs.Jump.{jpRegisters, jpWord}
+use Rattle.device.specs.Device.{upd77p20}
+use Rattle.flow.specs.Stack.{pushed}
+use Rattle.words.specs.Outcomes.{finishedWord}
+use Rattle.words.specs.Jump.{jumped, jpRegisters, jpWord}
 use Rattle.words.specs.Refusals.{jpRefusal}
 use borrow.Author.Needs.{needs}
 use Rattle.words.proofs.rows.jp_word.Statement.{statement}
@@ -16,7 +19,7 @@ returns c = λ ram. rw (c .finish .ensures ram, c .before .jump .ensures, sym (c
 
 returns-2 : tie.Need-returns-2
 unfolding jpWord jpRefusal jpRegisters
-returns-2 c = λ ram. rw (c .refuse .ensures ram, sym (c .before .before .before .before .before .bits .ensures) ∙ c .before .before .before .match .keys3, le-leb _ _ (c .before .if2 .taken))
+returns-2 c = λ ram. rw (c .refuse .ensures ram, sym (c .before .before .before .before .before .bits .ensures) ∙ c .before .before .before .match .keys3, le-leb (upd77p20 .stack) (c .before .before .before .before .before .before .args .r .depth) (omega arith))
 
 returns-3 : tie.Need-returns-3
 unfolding jpWord jpRefusal jpRegisters
@@ -28,7 +31,11 @@ returns-4 c = λ ram. rw (c .finish3 .ensures ram, c .before .jump2 .ensures, sy
 
 returns-5 : tie.Need-returns-5
 unfolding jpWord jpRefusal jpRegisters
-returns-5 c = λ ram. rw (c .finish4 .ensures ram, c .before .jump3 .ensures, c .before .before .push .ensures, c .before .before .before .next .ensures, sym (c .before .before .before .before .before .before .before .before .bits .ensures) ∙ c .before .before .before .before .before .before .match .keys3, lt-leb _ _ (c .before .before .before .before .if2 .left), c .before .before .before .before .before .before .before .bits2 .ensures)
+returns-5 c = λ ram.
+    let r = c .before .before .before .before .before .before .before .before .before .args .r in
+    let na = c .before .before .before .before .before .before .before .bits2 .result in
+    rw (c .finish4 .ensures ram, c .before .jump3 .ensures, c .before .before .push .ensures, sym (c .before .before .before .before .before .before .before .before .bits .ensures) ∙ c .before .before .before .before .before .before .match .keys3, lt-leb (upd77p20 .stack) (r .depth) (omega arith), ← c .before .before .before .before .before .before .before .bits2 .ensures)
+    (ap (λ back. finishedWord (jumped (pushed r back) na) ram) (c .before .before .before .next .ensures))
 
 returns-6 : tie.Need-returns-6
 unfolding jpWord jpRefusal

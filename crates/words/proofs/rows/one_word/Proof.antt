@@ -10,22 +10,22 @@ use Rattle.words.proofs.rows.one_word.Tie as tie
 returns : tie.Need-returns
 unfolding wordDone
 returns c = let s = c .before .before .before .before .before .before .before .before .before .args in
-    rw (c .before .before .op-word .ensures, ← c .before .before .before .before .before .word-at .ensures) (fetched-op (s .r) (c .before .before .before .before .before .word-at .result) (now (s .ram)) (now (s .rom)) (c .before .before .before .before .if1 .taken))
+    rw (c .before .before .op-word .ensures, ← c .before .before .before .before .before .word .ensures) (fetched-op (s .r) (c .before .before .before .before .before .word .result) (now (s .ram)) (now (s .rom)) (c .before .before .before .before .if1 .taken))
 
 returns-2 : tie.Need-returns-2
 unfolding wordDone
 returns-2 c = let s = c .before .before .before .before .before .before .before .args in
-    rw (c .jp-word .ensures, ← c .before .before .before .word-at .ensures) (fetched-jp (s .r) (c .before .before .before .word-at .result) (now (s .ram)) (now (s .rom)) (c .before .before .if1 .left) (c .before .if2 .taken))
+    rw (c .jp-word .ensures, ← c .before .before .before .word .ensures) (fetched-jp (s .r) (c .before .before .before .word .result) (now (s .ram)) (now (s .rom)) (c .before .before .if1 .left) (c .before .if2 .taken))
 
 returns-3 : tie.Need-returns-3
 unfolding wordDone
 returns-3 c = let s = c .before .before .before .before .before .before .before .before .before .before .before .args in
-    rw (c .before .before .ldi-word .ensures, ← c .before .before .before .before .before .before .before .word-at .ensures) (fetched-ldi (s .r) (c .before .before .before .before .before .before .before .word-at .result) (now (s .ram)) (now (s .rom)) (c .before .before .before .before .before .if2 .left) (c .before .before .before .before .if3 .taken))
+    rw (c .before .before .ldi-word .ensures, ← c .before .before .before .before .before .before .before .word .ensures) (fetched-ldi (s .r) (c .before .before .before .before .before .before .before .word .result) (now (s .ram)) (now (s .rom)) (c .before .before .before .before .before .if2 .left) (c .before .before .before .before .if3 .taken))
 
 returns-4 : tie.Need-returns-4
 unfolding wordDone
 returns-4 c = let s = c .before .before .before .before .before .before .before .before .args in
-    rw (c .refuse .ensures, ← c .before .before .before .before .word-at .ensures) (fetched-refused (s .r) (c .before .before .before .before .word-at .result) (now (s .ram)) (now (s .rom)) (c .before .if3 .left))
+    rw (c .refuse .ensures, ← c .before .before .before .before .word .ensures) (fetched-refused (s .r) (c .before .before .before .before .word .result) (now (s .ram)) (now (s .rom)) (c .before .if3 .left))
 
 pub one-word-spec : {M : Type 1} → statement M
 one-word-spec =

@@ -4,7 +4,7 @@ use mathlib.Core.Path.{_≡_, ap, _∙_}
 use denote.Ref.{now}
 use lib.Dec.{leb}
 use Rattle.word.specs.Fields.{opFields}
-use Rattle.stages.specs.Codes.{sourceOf, destinationOf}
+use Rattle.codes.specs.Codes.{sourceOf, destinationOf}
 use Rattle.words.proofs.Composed.{op-refused, op-composed}
 use borrow.Author.Needs.{needs}
 use Rattle.words.proofs.rows.op_word.Statement.{statement}

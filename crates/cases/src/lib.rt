@@ -1,0 +1,1 @@
+// The bench cases are in specs/ and proofs/ alone.

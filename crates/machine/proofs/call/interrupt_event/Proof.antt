@@ -1,0 +1,27 @@
+-- `interrupt_event`: the definition's two tests in their order.
+-- Assumes nothing.
+use mathlib.Core.Path.{_≡_, refl, sym, ap, _∙_}
+use native.Mathlib.Omega.{arith}
+use borrow.Author.Tests.{le-leb, lt-leb}
+use Rattle.device.specs.Device.{upd77p20}
+use Rattle.machine.specs.Events.{interruptEnding}
+use borrow.Author.Needs.{needs}
+use Rattle.machine.proofs.call.interrupt_event.Statement.{statement}
+use Rattle.machine.proofs.call.interrupt_event.Tie as tie
+
+returns : tie.Need-returns
+unfolding interruptEnding
+returns c = λ ram. rw (c .refuse .ensures ram, sym (c .before .before .before .before .ei .ensures) ∙ c .before .before .before .if1 .taken, le-leb (upd77p20 .stack) (c .before .before .before .before .before .args .r .depth) (omega arith))
+
+returns-2 : tie.Need-returns-2
+unfolding interruptEnding
+returns-2 c = λ ram. rw (c .finish .ensures ram, c .before .interrupt .ensures, sym (c .before .before .before .before .before .ei .ensures) ∙ c .before .before .before .before .if1 .taken, lt-leb (upd77p20 .stack) (c .before .before .before .before .before .before .args .r .depth) (omega arith))
+
+returns-3 : tie.Need-returns-3
+unfolding interruptEnding
+returns-3 c = λ ram. rw (c .finish2 .ensures ram, sym (c .before .before .ei .ensures) ∙ c .before .if1 .left)
+
+pub interrupt-event-spec : {M : Type 1} → statement M
+interrupt-event-spec =
+    tie.close (tie.spec (λ c κs. search needs) (λ c κs. search needs) returns (λ c κs. search needs)
+    (λ c κs. search needs) returns-2 (λ c κs. search needs) returns-3)
