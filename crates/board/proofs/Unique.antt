@@ -1,6 +1,6 @@
 -- An ending says each part of the reply, the record and the RAM; the other contracts are equations.
 -- Assumes nothing.
-use mathlib.Core.Path.{_≡_, sym, ap, _∙_}
+use mathlib.Core.Path.{sym, ap, _∙_}
 use Rattle.machine.specs.Replies.{Ending}
 use Rattle.board.specs.Unique.{OneReply, OneTaken, OneBuilt}
 

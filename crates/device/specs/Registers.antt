@@ -3,7 +3,7 @@ use mathlib.Core.Bool.{Bool, false, _&&_}
 use lib.Dec.{leb, eqb}
 use Rattle.numbers.specs.Bits.{bits}
 use Rattle.alu.specs.declared.Flags.{Flags}
-use Rattle.device.specs.Device.{Device, upd77p20}
+use Rattle.device.specs.Device.{Device}
 use Rattle.device.specs.Pointers.{addressFits, ramPointerFits, romPointerFits}
 use Rattle.device.specs.declared.pointers.InstructionAddress.{InstructionAddress}
 use Rattle.device.specs.declared.registers.Registers.{Registers}

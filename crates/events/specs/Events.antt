@@ -1,7 +1,7 @@
 -- What events 4 to 7 do to the registers, and which kinds and values are allowed: 01, "Events from outside". `Host` has events 1 and 2.
 use Prim.Native.Nat.{ℕ}
 use mathlib.Core.Bool.{Bool, true, false}
-use mathlib.Core.List.{List, [], _∷_}
+use mathlib.Core.List.{[], _∷_}
 use lib.Dec.{leb, eqb}
 use lib.ListN.{getD}
 use Rattle.device.specs.Registers.{clearFlags}

@@ -1,5 +1,5 @@
 -- The host's port, events 1 and 2: 01, "host reads data", "host writes value".
-use Prim.Native.Nat.{ℕ, _+_, _*_, _/_, _%_}
+use Prim.Native.Nat.{ℕ, _+_}
 use mathlib.Core.Bool.{Bool, cond, not, _&&_}
 use Rattle.numbers.specs.Bits.{bits, at}
 use Rattle.device.specs.Set.{set-dr, set-sr}

@@ -1,6 +1,6 @@
 -- The stack and PC: 01, "A push writes the stack cell numbered by the depth ..".
 use Prim.Native.Nat.{ℕ, _-_}
-use mathlib.Core.List.{List, [], _∷_}
+use mathlib.Core.List.{[], _∷_}
 use lib.ListN.{getD}
 use Rattle.device.specs.Device.{upd77p20}
 use Rattle.device.specs.Pointers.{nextAddress}

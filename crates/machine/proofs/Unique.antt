@@ -1,6 +1,6 @@
 -- The contract of `event` leaves one answer and one RAM: an ending says each of their parts.
 -- Assumes nothing.
-use mathlib.Core.Path.{_≡_, sym, ap, _∙_}
+use mathlib.Core.Path.{sym, ap, _∙_}
 use Rattle.machine.specs.Replies.{Ending}
 use Rattle.machine.specs.Promises.{OneEnding}
 

@@ -1,6 +1,6 @@
 -- The contracts are equations with a definition.
 -- Assumes nothing.
-use mathlib.Core.Path.{_≡_, sym, _∙_}
+use mathlib.Core.Path.{sym, _∙_}
 use Rattle.word.specs.Unique.{OneTaken, OneBuilt}
 
 pub one-taken : OneTaken

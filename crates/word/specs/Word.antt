@@ -1,7 +1,7 @@
 -- A word taken apart and built, with refusals 4 and 11: 01, "A word has D22-21 and the fields of its own row, and no others".
 use Prim.Native.Nat.{ℕ, _+_}
 use mathlib.Core.Bool.{Bool, cond}
-use mathlib.Core.List.{List, [], _∷_}
+use mathlib.Core.List.{[], _∷_}
 use lib.Dec.{ltb}
 use lib.ListN.{getD}
 use Rattle.device.specs.Device.{upd77p20, wordLimit}

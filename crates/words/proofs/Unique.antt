@@ -1,6 +1,6 @@
 -- The contract of `one_word` leaves one answer and one RAM: an outcome says each of their parts.
 -- Assumes nothing.
-use mathlib.Core.Path.{_≡_, sym, ap, _∙_}
+use mathlib.Core.Path.{sym, ap, _∙_}
 use Rattle.words.specs.Outcomes.{Outcome}
 use Rattle.words.specs.OneWord.{OneOutcome}
 

@@ -2,7 +2,6 @@
 -- Assumes nothing.
 use Prim.Native.Nat.{ℕ, _^_, _<_}
 use native.Mathlib.Omega.{arith}
-use mathlib.Core.Path.{_≡_}
 use mathlib.Core.Bool.{Bool, true, false}
 use mathlib.Core.List.{List, [], _∷_}
 use lib.Dec.{ltb, eqb}
@@ -11,7 +10,6 @@ use Rattle.numbers.specs.Bits.{bits}
 use Rattle.device.specs.Device.{upd77p20, wordLimit}
 use Rattle.device.specs.Lent.{wordAt}
 use Rattle.device.specs.Pointers.{nextAddress}
-use Rattle.device.specs.Registers.{registersFit}
 use Rattle.device.specs.declared.registers.Registers.{Registers}
 use Rattle.device.proofs.Widths.{nextAddress-fits}
 use Rattle.word.specs.Fields.{branch, opFields, jpFields, ldiFields}

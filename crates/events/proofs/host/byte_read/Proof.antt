@@ -1,7 +1,7 @@
 -- `byte_read`: by DR's half, as the definition has it.
 -- Assumes nothing.
 use native.Mathlib.Omega.{arith}
-use mathlib.Core.Path.{_≡_, refl, sym, ap, _∙_}
+use mathlib.Core.Path.{sym, _∙_}
 use Rattle.events.specs.Host.{byteRead}
 use borrow.Author.Needs.{needs}
 use Rattle.events.proofs.host.byte_read.Statement.{statement}

@@ -1,7 +1,7 @@
 -- `dr_written`: by DR's half; a byte and a half of DR cannot leave 16 bits.
 -- Assumes nothing.
 use native.Mathlib.Omega.{arith}
-use mathlib.Core.Path.{_≡_, refl, sym, ap, _∙_}
+use mathlib.Core.Path.{sym, _∙_}
 use Rattle.events.specs.Host.{drWritten}
 use borrow.Author.Needs.{needs}
 use Rattle.events.proofs.host.dr_written.Statement.{statement}

@@ -1,6 +1,6 @@
 -- `status_accessed`: the three that SR can become, and the definition's two tests in their order.
 -- Assumes nothing.
-use mathlib.Core.Path.{_≡_, sym, ap, _∙_}
+use mathlib.Core.Path.{sym, ap, _∙_}
 use Rattle.status.specs.Status.{withoutDrs}
 use Rattle.events.specs.Host.{statusAccessed}
 use borrow.Author.Needs.{needs}

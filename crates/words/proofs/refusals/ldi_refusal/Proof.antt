@@ -1,8 +1,8 @@
 -- `ldi_refusal`: the definition's test in two steps.
 -- Assumes nothing.
 use native.Mathlib.Omega.{arith}
-use mathlib.Core.Path.{_≡_, refl, sym, ap, _∙_}
-use borrow.Author.Tests.{eq-eqb, ne-eqb, le-leb, lt-leb, lt-ltb, le-ltb}
+use mathlib.Core.Path.{sym, _∙_}
+use borrow.Author.Tests.{eq-eqb, ne-eqb}
 use Rattle.numbers.specs.Bits.{bits}
 use Rattle.words.specs.Refusals.{ldiRefusal}
 use borrow.Author.Needs.{needs}

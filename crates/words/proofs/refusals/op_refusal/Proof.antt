@@ -1,6 +1,6 @@
 -- `op_refusal`: the definition's three tests in their order.
 -- Assumes nothing.
-use mathlib.Core.Path.{_≡_, sym, ap, _∙_}
+use mathlib.Core.Path.{sym, ap, _∙_}
 use mathlib.Core.Bool.{Bool, cond}
 use Rattle.words.specs.Refusals.{opRefusal}
 use borrow.Author.Needs.{needs}

@@ -1,7 +1,7 @@
 -- `jp_word`: for each BRCH the definition's test of it has one value.
 -- Assumes nothing.
 use native.Mathlib.Omega.{arith}
-use mathlib.Core.Path.{_≡_, refl, sym, ap, _∙_}
+use mathlib.Core.Path.{sym, ap, _∙_}
 use borrow.Author.Tests.{ne-eqb, le-leb, lt-leb}
 use Rattle.numbers.specs.Bits.{bits}
 use Rattle.device.specs.Device.{upd77p20}

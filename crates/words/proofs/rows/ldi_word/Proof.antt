@@ -1,6 +1,6 @@
 -- `ldi_word`: refused, or loaded and stepped.
 -- Assumes nothing.
-use mathlib.Core.Path.{_≡_, _∙_}
+use mathlib.Core.Path.{_∙_}
 use denote.Ref.{now}
 use Rattle.word.specs.Fields.{ldiFields}
 use Rattle.words.proofs.Composed.{ldi-refused, ldi-finished}

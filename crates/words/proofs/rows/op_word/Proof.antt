@@ -1,6 +1,6 @@
 -- `op_word`: the stages in a row are the definition (`Composed`).
 -- Assumes nothing.
-use mathlib.Core.Path.{_≡_, ap, _∙_}
+use mathlib.Core.Path.{ap, _∙_}
 use denote.Ref.{now}
 use lib.Dec.{leb}
 use Rattle.word.specs.Fields.{opFields}
