@@ -22,7 +22,7 @@ EVENTS = 200000000
 run: desk
 	@dist/desk example dist/example
 
-# The bench list: what the rules expect and what the compiled functions answer.
+# The bench list: what the rules expect and what the compiled machine answers.
 cases:
 	@mkdir -p target
 	@echo 'proving what the bench list runs (about three minutes the first time)' >&2

@@ -93,8 +93,9 @@ struct bemulatsho_flags {
     bool s0;  /* S0: the result's top bit */
     bool c;   /* C: carry or borrow of a sum; bit shifted out by SHR1, SHL1; else 0 */
     bool z;   /* Z: the result is 0 */
-    bool ov1; /* OV1: OV0 after a sum, but 1 if it was 1, unless OV0 is 1 and S0 differs
-                 from S1; 0 after the others. 1: a chain of sums is out of range */
+    bool ov1; /* OV1: after a sum OV0; but if it was 1 it stays 1, unless OV0 is 1 and S0
+                 differs from S1: then 0. After the others 0. 1: a chain of sums is out
+                 of range */
     bool ov0; /* OV0: the sum left -32768 to 32767; 0 after the others */
 };
 

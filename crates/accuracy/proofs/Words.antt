@@ -90,7 +90,7 @@ module _ (r : Registers) (ram rom : List ℕ) where
       (of-cond (SameA r) (conditionHolds r (f .cnd)) refl refl)))
   row-leaves (Ldi f) i n = checked (SameA r) (ldiRefusal r f rom) r _ ram _ (loaded-a (r .dp) (r .rp) r (f .dst) (f .id) ram rom (λ z. absurd (omega (arith, eqb-false))))
 
-  -- a word too wide is refused with 4, and has no row
+  -- a word too wide is refused with refusal 4, and has no row
   of-fetched : (P : Registers → Type 0) (w : ℕ) → Ends P (rowDone r (takenApart w .word) ram rom) → Ends P (fetchedDone r w ram rom)
   unfolding fetchedDone
   of-fetched P w h = go (eqb (takenApart w .refusal) 0) refl

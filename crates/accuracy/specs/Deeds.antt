@@ -52,7 +52,7 @@ wordsOf (suc n) r program rom ram =
     let more = wordsOf n (o .registers) program rom (o .ram) in
     inFront (eqb (o .number) 0) (word (fetched r program) r) more
 
--- not refused as a whole, by 1, 2 or 3
+-- not refused as a whole, by refusal 1, 2 or 3
 abbrev pub accepted : Registers → Call → Bool
 accepted r c = lentFit (c .program) (c .rom) (c .ram) && registersFit upd77p20 r && allowed (c .kind) (c .value)
 

@@ -1,5 +1,5 @@
 // The bench cases of 01 as words and events that the compiled machine runs: the bench staff's paper copy.
-// specs/Cases.antt has the same cases as statements about the definitions.
+// The crate `cases` has them as statements about the definitions.
 mod paper;
 
 use device::RamPointer;

@@ -1,4 +1,4 @@
--- A call is refused by 1, 2 or 3, or the event of its kind is done.
+-- A call is refused by refusal 1, 2 or 3, or the event of its kind is done.
 -- Assumes nothing.
 use Prim.Native.Nat.{ℕ, _<_}
 use native.Mathlib.Omega.{arith}
@@ -10,6 +10,7 @@ use Rattle.numbers.proofs.Codes.{Misses, past}
 use Rattle.device.specs.Device.{upd77p20}
 use Rattle.device.specs.Registers.{registersFit}
 use Rattle.device.specs.declared.registers.Registers.{Registers}
+use Rattle.machine.specs.Promises.{CallRefused}
 use Rattle.machine.specs.Replies.{refusedCall, finishedCall}
 use Rattle.machine.specs.Events.{lentFit, kinds, kindDone, eventDone}
 use Rattle.events.specs.Events.{allowed, reset}
@@ -37,6 +38,10 @@ module _ (r : Registers) (program rom ram : List ℕ) (kind value : ℕ) where
   pub kind-reset : Misses 7 kind → finishedCall 0 (reset r) ram ≡ kindDone kind value r program rom ram
   unfolding kindDone
   kind-reset h = past (kinds value r program rom ram) (finishedCall 0 (reset r) ram) kind h
+
+pub call-refused : CallRefused
+call-refused r program rom ram kind value =
+    ((λ e. sym (call-refused-1 r program rom ram kind value e)), (λ long e. sym (call-refused-2 r program rom ram kind value long e)), (λ long fit e. sym (call-refused-3 r program rom ram kind value long fit e)))
 
 -- what a kind allows fits its type
 module _ (kind value : ℕ) (ok : allowed kind value ≡ true) where

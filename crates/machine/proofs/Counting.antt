@@ -25,7 +25,7 @@ module _ (program rom : List ℕ) where
   more n words r ram rest true e =
       let z = eqb-true (wordDone r program rom ram .number) 0 e in
       rw (ran-on n words r program rom ram z)
-      (record { found = r ∷ rest .found; finished = next z (rest .finished); counted = omega (arith, rest .counted); ended = lift (length (rest .found)) (ran n (words + 1) (wordDone r program rom ram .registers) program rom (wordDone r program rom ram .ram)) (rest .ended) })
+      (record { found = r ∷ rest .found; finished = next z (rest .finished); counted = omega (arith, rest .counted); value = rest .value; ended = lift (length (rest .found)) (ran n (words + 1) (wordDone r program rom ram .registers) program rom (wordDone r program rom ram .ram)) (rest .ended) })
     where
       lift : (done : ℕ) (e : Ending) → AllOrRefused program rom n done e → AllOrRefused program rom (suc n) (suc done) e
       lift done e (inl a) = inl (a .0, ap suc (a .1))
@@ -33,11 +33,11 @@ module _ (program rom : List ℕ) where
   more n words r ram rest false e =
       let h = eqb-false (wordDone r program rom ram .number) 0 e in
       let u = word-refused r program rom ram h in
-      rw (ran-refused n words r program rom ram h, u .0, u .1) (record { found = []; finished = none; counted = omega arith; ended = inr (omega arith, refl, h) })
+      rw (ran-refused n words r program rom ram h, u .0, u .1) (record { found = []; finished = none; counted = omega arith; value = refl; ended = inr (omega arith, refl, h) })
 
 -- the words counted are the words done
 pub run-counts : RunCounts
-run-counts program rom zero words r ram = rw (ran-none words r program rom ram) (record { found = []; finished = none; counted = omega arith; ended = inl (refl, refl) })
+run-counts program rom zero words r ram = rw (ran-none words r program rom ram) (record { found = []; finished = none; counted = omega arith; value = refl; ended = inl (refl, refl) })
 run-counts program rom (suc n) words r ram =
     more program rom n words r ram (run-counts program rom n (words + 1) (wordDone r program rom ram .registers) (wordDone r program rom ram .ram)) (eqb (wordDone r program rom ram .number) 0) refl
 

@@ -80,13 +80,13 @@ counts-none r program rom ram kind value =
     by-kinds (λ e. e .words ≡ 0) r program rom ram kind value
     (record { refused = λ number. refl; read = refl; written = refl; status = refl; word-in = refl; word-out = refl; taken = refl; ignored = refl }) (λ e. refl)
 
--- an finishedCall read is a read
+-- an answered read is a read
 pub host-read-done : (r : Registers) (program rom ram : List ℕ) (value : ℕ) → eventDone r program rom ram 1 value .number ≡ 0 → eventDone r program rom ram 1 value ≡ finishedCall (byteRead r) (hostRead r) ram
 unfolding kindDone
 host-read-done r program rom ram value =
     by-tests (λ e. e .number ≡ 0 → e ≡ finishedCall (byteRead r) (hostRead r) ram) r program rom ram 1 value (λ n e. absurd (omega arith)) (λ ok e. refl)
 
--- an finishedCall read hands the byte of DR and SR, an finishedCall look at the status SR's high byte
+-- an answered read hands the byte of DR and SR, an answered look at the status SR's high byte
 pub byte-handed : (r : Registers) (program rom ram : List ℕ) (value : ℕ) → eventDone r program rom ram 1 value .number ≡ 0 → eventDone r program rom ram 1 value .value ≡ byteRead r
 byte-handed r program rom ram value e = ap (λ x. x .value) (host-read-done r program rom ram value e)
 

@@ -26,6 +26,7 @@ pub record Counts (program rom : List ℕ) (n words : ℕ) (r : Registers) (ram 
   pub found : List Registers
   pub finished : Finished program rom found r ram (e .registers) (e .ram)
   pub counted : e .words ≡ words + length found
+  pub value : e .value ≡ 0
   pub ended : AllOrRefused program rom n (length found) e
 
 abbrev pub RunCounts : Type 0

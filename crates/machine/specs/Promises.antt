@@ -1,13 +1,14 @@
 -- What a reader asks of any call.
 use Prim.Native.Nat.{ℕ, suc}
 use mathlib.Core.Path.{_≡_}
-use mathlib.Core.Bool.{true}
+use mathlib.Core.Bool.{true, false}
 use mathlib.Core.List.{List}
 use Rattle.device.specs.Device.{upd77p20}
 use Rattle.device.specs.Registers.{registersFit}
 use Rattle.device.specs.declared.registers.Registers.{Registers}
 use Rattle.machine.specs.Replies.{Ending, refusedCall, ending}
-use Rattle.machine.specs.Events.{eventDone}
+use Rattle.events.specs.Events.{allowed}
+use Rattle.machine.specs.Events.{lentFit, eventDone}
 use Rattle.machine.specs.declared.replies.AfterEvent.{AfterEvent}
 
 -- two answers that meet the contract of `event` are equal, and so is the RAM that they leave
@@ -23,6 +24,14 @@ Untouched r ram e = (e .number ≡ 0 → ⊥) → e ≡ refusedCall (e .number) 
 
 abbrev pub EventRefused : Type 0
 EventRefused = (r : Registers) (program rom ram : List ℕ) (kind value : ℕ) → Untouched r ram (eventDone r program rom ram (suc kind) value)
+
+-- a call of any kind that is refused as a whole, by refusal 1, 2 or 3
+abbrev pub CallRefused : Type 0
+CallRefused =
+    (r : Registers) (program rom ram : List ℕ) (kind value : ℕ)
+    → (lentFit program rom ram ≡ false → eventDone r program rom ram kind value ≡ refusedCall 1 r ram)
+    × (lentFit program rom ram ≡ true → registersFit upd77p20 r ≡ false → eventDone r program rom ram kind value ≡ refusedCall 2 r ram)
+    × (lentFit program rom ram ≡ true → registersFit upd77p20 r ≡ true → allowed kind value ≡ false → eventDone r program rom ram kind value ≡ refusedCall 3 r ram)
 
 -- "the words done (0 for every kind but 0)", and no other kind touches the RAM
 abbrev pub CountsNone : Type 0

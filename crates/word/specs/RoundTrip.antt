@@ -14,7 +14,7 @@ TakenThenBuilt = (w : ℕ) → w < wordLimit upd77p20 → built (takenApart w .w
 abbrev pub BuiltThenTaken : Type 0
 BuiltThenTaken = (word : Word) → wordHolds word ≡ true → takenApart (built word .bits) ≡ record { refusal = 0; word = word }
 
--- all other numbers and fields are refused, by 4 and by 11
+-- all other numbers and fields are refused, by refusals 4 and 11
 abbrev pub TakenRefused : Type 0
 TakenRefused = (w : ℕ) → wordLimit upd77p20 ≤ w → takenApart w ≡ record { refusal = 4; word = Op (opFields 0) }
 
