@@ -55,6 +55,7 @@ extern "C" {
 }
 
 /// One event on the caller's record and RAM.
+#[inline]
 pub fn event(registers: &mut Registers, program: &[u32], rom: &[u16], ram: &mut [u16], kind: u32, value: u32) -> Reply {
     // SAFETY: each pointer goes with its slice's own length; the record and the RAM are lent to this call alone.
     unsafe {

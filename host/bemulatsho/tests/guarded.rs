@@ -2,6 +2,7 @@
 //! then each begin behind one. A stray access ends the test with a signal. Damaged records and wrong lengths are lent too.
 
 use bemulatsho::{event, Registers};
+use random::Random;
 use std::ffi::c_void;
 use std::mem::{align_of, size_of};
 
@@ -43,7 +44,7 @@ impl Guarded {
     /// `length` elements of the middle page, at one of its ends.
     fn slice<T: Copy>(&mut self, guard: Guard, length: usize) -> &mut [T] {
         let bytes = length * size_of::<T>();
-        assert!(bytes <= PAGE && PAGE % align_of::<T>() == 0);
+        assert!(bytes <= PAGE && PAGE.is_multiple_of(align_of::<T>()));
         let start = match guard {
             Guard::Before => PAGE,
             Guard::After => 2 * PAGE - bytes,
@@ -60,22 +61,6 @@ impl Drop for Guarded {
     }
 }
 
-/// A reproducible sequence of numbers (xorshift).
-struct Random(u64);
-
-impl Random {
-    fn next(&mut self) -> u64 {
-        self.0 ^= self.0 << 13;
-        self.0 ^= self.0 >> 7;
-        self.0 ^= self.0 << 17;
-        self.0
-    }
-
-    fn below(&mut self, limit: u64) -> u64 {
-        self.next() % limit
-    }
-}
-
 fn flags(bits: u64) -> bemulatsho::Flags {
     let flag = |place: u32| bits >> place & 1 == 1;
     bemulatsho::Flags { s1: flag(0), s0: flag(1), c: flag(2), z: flag(3), ov1: flag(4), ov0: flag(5) }
@@ -83,53 +68,53 @@ fn flags(bits: u64) -> bemulatsho::Flags {
 
 /// A record that fits, or one of any numbers at all.
 fn record(random: &mut Random, fits: bool) -> Registers {
-    let pointer = |random: &mut Random, limit: u64| (if fits { random.below(limit) } else { random.next() }) as u16;
+    let pointer = |random: &mut Random, limit: u32| if fits { random.below(limit) as u16 } else { random.word() };
     Registers {
         pc: pointer(random, 512),
         stack: [pointer(random, 512), pointer(random, 512), pointer(random, 512), pointer(random, 512)],
         flags: bemulatsho::BothFlags { a: flags(random.next()), b: flags(random.next()) },
-        si: random.next() as u16,
-        siack: random.next() & 1 == 1,
+        si: random.word(),
+        siack: random.flag(),
         depth: pointer(random, 5) as u8,
-        a: random.next() as u16,
-        b: random.next() as u16,
-        k: random.next() as u16,
-        l: random.next() as u16,
-        tr: random.next() as u16,
-        dr: random.next() as u16,
-        so: random.next() as u16,
+        a: random.word(),
+        b: random.word(),
+        k: random.word(),
+        l: random.word(),
+        tr: random.word(),
+        dr: random.word(),
+        so: random.word(),
         dp: pointer(random, 128),
         rp: pointer(random, 512),
-        sr: random.next() as u16 & if fits { 0xff83 } else { 0xffff },
-        soack: random.next() & 1 == 1,
-        sorq: random.next() & 1 == 1,
+        sr: random.word() & if fits { 0xff83 } else { 0xffff },
+        soack: random.flag(),
+        sorq: random.flag(),
     }
 }
 
 fn nothing_outside(guard: Guard) {
-    let mut random = Random(0x7720);
+    let mut random = Random::new(0x7720);
     let (mut records, mut programs, mut roms, mut rams) = (Guarded::new(), Guarded::new(), Guarded::new(), Guarded::new());
     for turn in 0..200_000 {
         let wrong_lengths = turn % 8 == 0;
-        let mut length = |right: u64| (if wrong_lengths { random.below(2 * right) } else { right }) as usize;
+        let mut length = |right: usize| if wrong_lengths { random.place(2 * right) } else { right };
         let (words, cells, ram_cells) = (length(512), length(512), length(128));
         let program = programs.slice::<u32>(guard, words);
         let rom = roms.slice::<u16>(guard, cells);
         let ram = rams.slice::<u16>(guard, ram_cells);
         for _ in 0..8 {
-            if let Some(at) = random.next().checked_rem(words as u64) {
-                program[at as usize] = random.next() as u32 & if random.below(16) == 0 { u32::MAX } else { 0x7f_ffff };
+            if let Some(word) = program.get_mut(random.place(words)) {
+                *word = random.next() as u32 & if random.one_in(16) { u32::MAX } else { 0x7f_ffff };
             }
-            if let Some(at) = random.next().checked_rem(cells as u64) {
-                rom[at as usize] = random.next() as u16;
+            if let Some(cell) = rom.get_mut(random.place(cells)) {
+                *cell = random.word();
             }
-            if let Some(at) = random.next().checked_rem(ram_cells as u64) {
-                ram[at as usize] = random.next() as u16;
+            if let Some(cell) = ram.get_mut(random.place(ram_cells)) {
+                *cell = random.word();
             }
         }
         let registers = &mut records.slice::<Registers>(guard, 1)[0];
         *registers = record(&mut random, turn % 4 != 1);
-        let (kind, value) = (random.below(9) as u32, random.below(40) as u32);
+        let (kind, value) = (random.below(9), random.below(40));
         let reply = event(registers, program, rom, ram, kind, if kind == 0 || kind == 2 || kind == 4 { value } else { 0 });
         assert!(reply.number <= 10);
         assert!(reply.number == 0 || reply.value == 0);

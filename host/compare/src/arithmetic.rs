@@ -1,9 +1,10 @@
 //! The arithmetic through the event call: every value where there are few enough, else every pair of corner values and some
 //! millions of random ones. Operands come from TR by the bus.
 
+use crate::chip_values::CORNERS;
 use crate::pair::{Difference, Pair};
-use crate::random::{Random, CORNERS};
 use emulator::Registers;
+use random::Random;
 
 const RANDOM_PAIRS: u32 = 500_000;
 

@@ -1,8 +1,8 @@
 //! Every word of 2^23 once: run from a random state, taken apart, and built again.
 
 use crate::pair::Pair;
-use crate::random::Random;
 use crate::states;
+use random::Random;
 
 /// The fields as the emulator names them.
 fn fields(word: bemulatsho::Word) -> emulator::Word {

@@ -1,10 +1,11 @@
 //! Random machines and sequences of events: the proved core against the emulator after every event.
 
+use crate::chip_values::ChipValues;
 use crate::coverage::Coverage;
 use crate::pair::{Difference, Pair};
-use crate::random::Random;
 use crate::states;
 use emulator::{Reply, RAM};
+use random::Random;
 
 /// Events of one machine; then another is made.
 const EVENTS: u32 = 200;
@@ -54,7 +55,7 @@ fn with_a_wrong_length(random: &mut Random, pair: &Pair) -> Pair {
         0 => 0,
         1 => right - 1,
         2 => right + 1,
-        _ => random.below(2 * right as u32) as usize,
+        _ => random.place(2 * right),
     };
     match random.below(3) {
         0 => short.program.resize(length(random, 512), 0),

@@ -2,13 +2,13 @@
 //! difference is printed with what was lent and ends it with status 1.
 
 mod arithmetic;
+mod chip_values;
 mod coverage;
 mod every_word;
 mod listings;
 mod machines;
 mod mixing;
 mod pair;
-mod random;
 mod states;
 mod tracks;
 
@@ -67,7 +67,7 @@ fn random_machines(seed: u64, events: u64) -> Result<(), String> {
     let mut coverage = Coverage::new();
     let terminal = stderr().is_terminal();
     let progress = |done: u64| {
-        if terminal && done % 1_000_000 == 0 {
+        if terminal && done.is_multiple_of(1_000_000) {
             eprint!("\r{} of {} million events", done / 1_000_000, events.div_ceil(1_000_000));
         }
     };

@@ -1,7 +1,8 @@
 //! Random machines: records that fit, records that do not, images and RAM.
 
-use crate::random::Random;
+use crate::chip_values::ChipValues;
 use emulator::{Registers, CELLS, RAM, WORDS};
+use random::Random;
 
 fn address(random: &mut Random) -> u16 {
     match random.below(8) {

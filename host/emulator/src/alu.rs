@@ -80,34 +80,14 @@ fn after_arithmetic(old: Accumulator, unsigned_result: i64, signed_result: i64) 
     let carry = unsigned_result > 65535;
     let borrow = unsigned_result < 0;
     let ov0 = !(-32768..=32767).contains(&signed_result);
-    let (s1, ov1) = if !old.ov1 {
-        (s0, ov0)
-    } else {
-        (old.s1, !(ov0 && s0 != old.s1))
-    };
-    Accumulator {
-        value,
-        s1,
-        s0,
-        c: carry || borrow,
-        z: value == 0,
-        ov1,
-        ov0,
-    }
+    let (s1, ov1) = if !old.ov1 { (s0, ov0) } else { (old.s1, !(ov0 && s0 != old.s1)) };
+    Accumulator { value, s1, s0, c: carry || borrow, z: value == 0, ov1, ov0 }
 }
 
 /// The accumulator after an operation that is neither none nor one of the six above.
 fn after_other(value: u16, c: bool) -> Accumulator {
     let s0 = top_bit(value);
-    Accumulator {
-        value,
-        s1: s0,
-        s0,
-        c,
-        z: value == 0,
-        ov1: false,
-        ov0: false,
-    }
+    Accumulator { value, s1: s0, s0, c, z: value == 0, ov1: false, ov0: false }
 }
 
 fn top_bit(value: u16) -> bool {

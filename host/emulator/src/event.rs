@@ -117,7 +117,7 @@ fn interrupt_edge(registers: &mut Registers) -> Reply {
     if registers.sr & EI == 0 {
         return Reply::DONE;
     }
-    if refusal::stack_full(registers) {
+    if stack::is_full(registers) {
         return Reply::refusing(refusal::STACK_FULL);
     }
     stack::push(registers, registers.pc);

@@ -12,11 +12,7 @@ pub fn read_data(registers: &mut Registers) -> u16 {
 
 /// Puts a byte in DR where its turn is; the other byte stays.
 pub fn write_data(registers: &mut Registers, byte: u16) {
-    registers.dr = if high_byte_is_next(registers.sr) {
-        (byte << 8) | (registers.dr & 0xff)
-    } else {
-        (registers.dr & 0xff00) | byte
-    };
+    registers.dr = if high_byte_is_next(registers.sr) { (byte << 8) | (registers.dr & 0xff) } else { (registers.dr & 0xff00) | byte };
     registers.sr = after_access(registers.sr);
 }
 

@@ -6,6 +6,7 @@
 pub mod accumulators;
 pub mod alu;
 pub mod bits;
+pub mod branch;
 pub mod bus;
 pub mod conditions;
 pub mod destination;
@@ -16,6 +17,7 @@ pub mod multiplier;
 pub mod operand;
 pub mod pointers;
 pub mod refusal;
+pub mod refusals_of_words;
 pub mod registers;
 pub mod stack;
 pub mod status;

@@ -1,6 +1,12 @@
 //! The stack. Refusals 8 and 9 have made sure that there is a cell to pop or to push.
 
+use crate::device::STACK;
 use crate::registers::Registers;
+
+/// Whether no cell is left to push.
+pub fn is_full(registers: &Registers) -> bool {
+    usize::from(registers.depth) == STACK
+}
 
 /// Writes the cell numbered by the depth, then raises the depth.
 pub fn push(registers: &mut Registers, address: u16) {

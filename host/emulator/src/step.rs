@@ -2,19 +2,16 @@
 
 use crate::accumulators;
 use crate::alu;
+use crate::branch;
 use crate::bus;
 use crate::conditions;
 use crate::destination;
 use crate::operand;
 use crate::pointers::{dp_moved, next_pc, rp_down};
-use crate::refusal;
+use crate::refusals_of_words;
 use crate::registers::Registers;
 use crate::stack;
 use crate::word::{jp_fields, kind, ldi_fields, op_fields, JpFields, Kind, LdiFields, OpFields};
-
-pub const JUMP_ON_CONDITION: u8 = 0b010;
-pub const JUMP: u8 = 0b100;
-pub const CALL: u8 = 0b101;
 
 const DPL_KEEP: u8 = 0;
 const DPH_M_KEEP: u8 = 0;
@@ -33,12 +30,7 @@ pub fn step(registers: &mut Registers, program: &[u32], rom: &[u16], ram: &mut [
 
 /// `step` with a time for DPH-M.
 #[inline]
-pub(crate) fn step_with<const ROW: bool>(
-    registers: &mut Registers,
-    program: &[u32],
-    rom: &[u16],
-    ram: &mut [u16],
-) -> Result<(), u8> {
+pub(crate) fn step_with<const ROW: bool>(registers: &mut Registers, program: &[u32], rom: &[u16], ram: &mut [u16]) -> Result<(), u8> {
     let word = program[usize::from(registers.pc)];
     match kind(word)? {
         Kind::Op => op::<ROW>(registers, rom, ram, &op_fields(word)),
@@ -49,25 +41,25 @@ pub(crate) fn step_with<const ROW: bool>(
 }
 
 fn op<const ROW: bool>(registers: &mut Registers, rom: &[u16], ram: &mut [u16], fields: &OpFields) -> Result<(), u8> {
-    refusal::of_op(fields, registers, rom)?;
+    refusals_of_words::op(fields, registers, rom)?;
     operate_and_move::<ROW>(registers, rom, ram, fields);
     registers.pc = next_pc(registers.pc);
     Ok(())
 }
 
 fn rt<const ROW: bool>(registers: &mut Registers, rom: &[u16], ram: &mut [u16], fields: &OpFields) -> Result<(), u8> {
-    refusal::of_rt(fields, registers, rom)?;
+    refusals_of_words::rt(fields, registers, rom)?;
     operate_and_move::<ROW>(registers, rom, ram, fields);
     registers.pc = stack::pop(registers);
     Ok(())
 }
 
 fn jp(registers: &mut Registers, fields: &JpFields) -> Result<(), u8> {
-    refusal::of_jp(fields, registers)?;
+    refusals_of_words::jp(fields, registers)?;
     let next = next_pc(registers.pc);
     registers.pc = match fields.brch {
-        JUMP => fields.na,
-        CALL => {
+        branch::JUMP => fields.na,
+        branch::CALL => {
             stack::push(registers, next);
             fields.na
         }
@@ -78,7 +70,7 @@ fn jp(registers: &mut Registers, fields: &JpFields) -> Result<(), u8> {
 }
 
 fn ldi(registers: &mut Registers, rom: &[u16], ram: &mut [u16], fields: &LdiFields) -> Result<(), u8> {
-    refusal::of_ldi(fields, registers, rom)?;
+    refusals_of_words::ldi(fields, registers, rom)?;
     destination::store(registers, rom, ram, fields.dst, fields.id);
     registers.pc = next_pc(registers.pc);
     Ok(())

@@ -85,6 +85,7 @@ pub fn op_fields(word: u32) -> OpFields {
 }
 
 /// The fields of a JP word.
+#[rustfmt::skip] // One field a line, with its bits.
 pub fn jp_fields(word: u32) -> JpFields {
     JpFields {
         brch: bits(word, 20, 18) as u8,

@@ -1,10 +1,10 @@
 //! Appendix 2: sums that overflow on the way. It has no listing: the words are ours, the numbers are the manual's.
 
 use super::arithmetic::{fits, kept, saturated, signed};
-use crate::random::Random;
+use super::line::{ours, Line};
 use super::running::{Run, RESET, RUN};
-use super::{ours, Line};
 use emulator::{Flags, Registers};
+use random::Random;
 
 /// The sum of RAM cells 0 to 3, then saturated as in Example A.
 const SUM_IN_A: [Line; 6] = [

@@ -1,9 +1,9 @@
 //! Appendix 3 and 3.11: M and N as one product of 32 bits. No listing: the words are ours, the numbers are the manual's.
 
 use super::arithmetic::signed;
-use crate::random::Random;
+use super::line::{ours, Line};
 use super::running::{Run, RUN};
-use super::{ours, Line};
+use random::Random;
 
 /// The product of RAM cells 0 and 1, added to A and B.
 const PRODUCT: [Line; 4] = [
@@ -14,8 +14,7 @@ const PRODUCT: [Line; 4] = [
 ];
 
 /// 3.11 (line 363) and Appendix 3 (line 1510).
-const PUBLISHED: [(u16, u16, u32); 3] =
-    [(0x8000, 0x8000, 0x8000_0000), (0x0001, 0x0001, 0x0000_0002), (0x4000, 0x4000, 0x2000_0000)];
+const PUBLISHED: [(u16, u16, u32); 3] = [(0x8000, 0x8000, 0x8000_0000), (0x0001, 0x0001, 0x0000_0002), (0x4000, 0x4000, 0x2000_0000)];
 
 pub fn products() -> Result<String, String> {
     let mut random = Random::new(0x3);

@@ -3,7 +3,11 @@
 /// The signed number that a 16-bit register holds.
 pub fn signed(register: u16) -> i64 {
     let number = i64::from(register);
-    if number < 32768 { number } else { number - 65536 }
+    if number < 32768 {
+        number
+    } else {
+        number - 65536
+    }
 }
 
 /// A whole number kept to 16 bits.

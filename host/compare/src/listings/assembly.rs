@@ -1,6 +1,6 @@
 //! Assembles a line as the manual prints it, so that no word of a table goes unchecked. Codes and fields are those of 01.
 
-use super::Line;
+use super::line::Line;
 
 const SOURCES: [&str; 16] = ["NON", "A", "B", "TR", "DP", "RP", "RO", "SGN", "DR", "DRNF", "SR", "SIM", "SIL", "K", "L", "MEM"];
 
@@ -16,6 +16,7 @@ const ACCUMULATORS: [&str; 2] = ["ACCA", "ACCB"];
 const DPL: [&str; 4] = ["DPNOP", "DPINC", "DPDEC", "DPCLR"];
 const DPH_M: [&str; 8] = ["M0", "M1", "M2", "M3", "M4", "M5", "M6", "M7"];
 
+#[rustfmt::skip] // Eight codes a line.
 const CONDITIONS: [&str; 32] = [
     "JNCA", "JCA", "JNCB", "JCB", "JNZA", "JZA", "JNZB", "JZB",
     "JNOVA0", "JOVA0", "JNOVB0", "JOVB0", "JNOVA1", "JOVA1", "JNOVB1", "JOVB1",

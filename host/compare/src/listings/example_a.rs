@@ -1,9 +1,10 @@
 //! Example A: BIQFIL, one second order section. 11 words; "executes in 2.5 usec (2.75 if an overflow occurs)", a word in 250 ns.
 
 use super::arithmetic::{cell, coefficient, fits, kept, product, saturated, signed};
-use crate::random::Random;
+use super::line::{ours, printed, Line};
 use super::running::Run;
-use super::{ours, printed, Line};
+use crate::chip_values::ChipValues;
+use random::Random;
 
 /// The subroutine from address `at` on: the jump in it names an address, and the manual gives none.
 pub const fn biqfil(at: u32) -> [Line; 11] {

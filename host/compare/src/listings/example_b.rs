@@ -2,9 +2,10 @@
 
 use super::arithmetic::{cell, kept, signed};
 use super::example_a::{biqfil, Section};
-use crate::random::Random;
+use super::line::{ours, printed, Line};
 use super::running::{Run, SERIAL_IN, SERIAL_OUT};
-use super::{ours, printed, Line};
+use crate::chip_values::ChipValues;
+use random::Random;
 
 const WAITIN: u16 = 0x06;
 const OUTPUT: u16 = 0x14;

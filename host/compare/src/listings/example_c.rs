@@ -1,9 +1,10 @@
 //! Example C: TRFIL, 16 taps of a transversal filter in one row of RAM.
 
 use super::arithmetic::{coefficient, kept, product, signed};
-use crate::random::Random;
+use super::line::{ours, printed, Line};
 use super::running::Run;
-use super::{ours, printed, Line};
+use crate::chip_values::ChipValues;
+use random::Random;
 
 /// The subroutine from address `at` on: both its jumps name addresses, and the manual gives none.
 pub const fn trfil(at: u32) -> [Line; 6] {
@@ -21,6 +22,7 @@ pub const fn trfil(at: u32) -> [Line; 6] {
 }
 
 /// The variant with coefficients in RAM: @KLM for @KLR, MOV @B,L for MOV @B,K, and no RPDEC (lines 1316 to 1318).
+#[rustfmt::skip] // One word a line.
 const fn trfil_from_ram(at: u32) -> [Line; 6] {
     let [_, add, _, skip, again, exit] = trfil(at);
     [

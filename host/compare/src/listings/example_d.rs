@@ -2,9 +2,9 @@
 
 use super::arithmetic::{kept, product, signed};
 use super::example_c::{coefficients_in_rom, convolution, delayed, trfil, WORDS};
-use crate::random::Random;
+use super::line::{ours, printed, Line};
 use super::running::Run;
-use super::{ours, printed, Line};
+use random::Random;
 
 const END: u16 = 7;
 

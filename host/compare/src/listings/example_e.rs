@@ -1,9 +1,9 @@
 //! Example E: six words from the host, a subroutine (Example F's CRUNCH here), two words back to the host.
 
 use super::example_f::{crunch, crunched};
-use crate::random::Random;
+use super::line::{ours, printed, Line};
 use super::running::{Run, HOST_READS, HOST_READS_STATUS, HOST_WRITES, RUN};
-use super::{ours, printed, Line};
+use random::Random;
 
 const INPTLP: u16 = 0x04;
 const LAST_INPUT: u16 = 0x07;

@@ -1,8 +1,8 @@
 //! Example F: CRUNCH, 32-bit sums in both accumulators: twice the first number, plus the second, less the third.
 
-use crate::random::Random;
+use super::line::{ours, printed, Line};
 use super::running::Run;
-use super::{ours, printed, Line};
+use random::Random;
 
 pub const fn crunch() -> [Line; 10] {
     [

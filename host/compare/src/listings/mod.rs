@@ -14,26 +14,9 @@ mod example_c;
 mod example_d;
 mod example_e;
 mod example_f;
+mod line;
 mod running;
 mod single_words;
-
-/// One word of a listing, the line it is assembled from, and that line's number in our copy of the manual if it stands there.
-#[derive(Clone, Copy)]
-struct Line {
-    word: u32,
-    source: &'static str,
-    number: Option<u16>,
-}
-
-/// A line of the manual.
-const fn printed(number: u16, word: u32, source: &'static str) -> Line {
-    Line { word, source, number: Some(number) }
-}
-
-/// A line that the manual leaves to its reader, such as the call of a subroutine.
-const fn ours(word: u32, source: &'static str) -> Line {
-    Line { word, source, number: None }
-}
 
 const LISTINGS: [fn() -> Result<String, String>; 16] = [
     single_words::op_rt,

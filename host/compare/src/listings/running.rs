@@ -1,10 +1,11 @@
 //! A listing on both implementations. What goes wrong is told with the listing's name and the step.
 
 use super::assembly::assembled;
-use crate::random::Random;
-use super::Line;
+use super::line::Line;
+use crate::chip_values::ChipValues;
 use crate::pair::Pair;
 use emulator::{Registers, Reply};
+use random::Random;
 use std::fmt::Debug;
 
 pub const RUN: u32 = 0;

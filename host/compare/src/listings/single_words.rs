@@ -1,10 +1,11 @@
 //! The one-word examples of 4.1, 4.2 and 4.3.
 
 use super::arithmetic::{coefficient, fits, kept, product, signed};
-use crate::random::Random;
+use super::line::{ours, printed, Line};
 use super::running::{Run, RUN};
-use super::{ours, printed, Line};
+use crate::chip_values::ChipValues;
 use emulator::{Flags, Registers};
+use random::Random;
 
 const OP_RT: [Line; 1] = [printed(686, 0x3293fb, "OP MOV @KLR,MEM ADD ACCA,M DPINC M1 RPDEC RET")];
 

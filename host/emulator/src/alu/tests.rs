@@ -5,22 +5,12 @@ use crate::multiplier::m;
 
 const ARITHMETIC: [u8; 6] = [SUB, ADD, SBB, ADC, DEC, INC];
 const OTHER: [u8; 9] = [OR, AND, XOR, CMP, SHR1, SHL1, SHL2, SHL4, XCHG];
-const SAMPLES: [u16; 10] = [
-    0x0000, 0x0001, 0x1234, 0x5555, 0x7FFE, 0x7FFF, 0x8000, 0x8001, 0xABCD, 0xFFFF,
-];
+const SAMPLES: [u16; 10] = [0x0000, 0x0001, 0x1234, 0x5555, 0x7FFE, 0x7FFF, 0x8000, 0x8001, 0xABCD, 0xFFFF];
 
 /// An accumulator with its flags in the paper's order: S1, S0, C, Z, OV1, OV0.
 fn state(value: u16, flags: [u8; 6]) -> Accumulator {
     let [s1, s0, c, z, ov1, ov0] = flags.map(|flag| flag == 1);
-    Accumulator {
-        value,
-        s1,
-        s0,
-        c,
-        z,
-        ov1,
-        ov0,
-    }
+    Accumulator { value, s1, s0, c, z, ov1, ov0 }
 }
 
 /// All 64 settings of the six flags.
@@ -109,11 +99,13 @@ fn bench_case_6_shifts() {
 fn bench_case_10_three_additions_of_minus_one_as_m() {
     let mut accumulator = state(0x0000, [0; 6]);
     let mut sum_of_products = 0;
-    for expected in [
+    #[rustfmt::skip]
+    let after_each = [
         state(0xFFFF, [1, 1, 0, 0, 0, 0]),
         state(0xFFFE, [1, 1, 1, 0, 0, 0]),
         state(0xFFFD, [1, 1, 1, 0, 0, 0]),
-    ] {
+    ];
+    for expected in after_each {
         accumulator = operate(ADD, accumulator, m(0xFFFF, 0x0001), false);
         sum_of_products -= 1;
         assert_eq!(accumulator, expected);
@@ -136,6 +128,7 @@ fn the_limit_of_three_additions_is_sharp() {
 #[test]
 fn s1_and_ov1_follow_from_all_their_old_values_and_from_s0_and_ov0() {
     // Value and P of four additions, then S0 and OV0 of their results.
+    #[rustfmt::skip]
     let additions = [
         (0x0001, 0x0001, 0, 0),
         (0x8000, 0xFFFF, 0, 1),

@@ -1,9 +1,10 @@
 //! The bench cases, each by its number.
 
 use crate::assemble::{alu, dst, op, psel, src, Op};
+use crate::fitting_registers::fitting_registers;
 use crate::machine::{empty, recognisable, DONE};
-use crate::random::Random;
 use emulator::{Flags, Reply};
+use random::Random;
 
 const ONE_WORD: Reply = Reply { words: 1, ..DONE };
 
@@ -14,11 +15,11 @@ fn add_tr_to_a() -> u32 {
 
 #[test]
 fn case_1_word_0_changes_pc_only() {
-    let mut random = Random::from_seed(1);
+    let mut random = Random::new(1);
     for _ in 0..1000 {
         let mut machine = recognisable();
-        machine.registers = random.registers();
-        machine.ram.fill_with(|| random.register());
+        machine.registers = fitting_registers(&mut random);
+        machine.ram.fill_with(|| random.word());
         machine.word_changes(0, |m| m.registers.pc = (m.registers.pc + 1) % 512);
     }
 }

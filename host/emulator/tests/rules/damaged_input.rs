@@ -1,7 +1,8 @@
 //! Any lengths, registers, words, cells, kinds and values: a reply comes, and it is one that the paper knows.
 
-use crate::random::Random;
+use crate::fitting_registers::fitting_registers;
 use emulator::{event, Registers, Reply};
+use random::Random;
 
 const CALLS: usize = 400_000;
 
@@ -11,7 +12,7 @@ const ROOM: usize = 520;
 /// Mostly the right length, now and then any.
 fn length(random: &mut Random, right: usize) -> usize {
     match random.below(40) {
-        0 => random.below(ROOM as u32 + 1) as usize,
+        0 => random.place(ROOM + 1),
         1 => right + 1,
         2 => right - 1,
         _ => right,
@@ -20,15 +21,15 @@ fn length(random: &mut Random, right: usize) -> usize {
 
 /// Registers that fit, now and then with one that may not.
 fn registers(random: &mut Random) -> Registers {
-    let mut r = random.registers();
-    if random.below(4) == 0 {
+    let mut r = fitting_registers(random);
+    if random.one_in(4) {
         match random.below(6) {
-            0 => r.pc = random.register(),
-            1 => r.stack[random.below(4) as usize] = random.register(),
-            2 => r.depth = random.register() as u8,
-            3 => r.dp = random.register(),
-            4 => r.rp = random.register(),
-            _ => r.sr = random.register(),
+            0 => r.pc = random.word(),
+            1 => r.stack[random.place(4)] = random.word(),
+            2 => r.depth = random.word() as u8,
+            3 => r.dp = random.word(),
+            4 => r.rp = random.word(),
+            _ => r.sr = random.word(),
         }
     }
     r
@@ -36,7 +37,7 @@ fn registers(random: &mut Random) -> Registers {
 
 fn kind(random: &mut Random) -> u32 {
     match random.below(20) {
-        0 => random.next(),
+        0 => random.next() as u32,
         1..=8 => 0,
         _ => random.below(9),
     }
@@ -44,7 +45,7 @@ fn kind(random: &mut Random) -> u32 {
 
 fn value(random: &mut Random) -> u32 {
     match random.below(200) {
-        0..=9 => random.next(),
+        0..=9 => random.next() as u32,
         10 => random.below(65536),
         11..=30 => random.below(300),
         31..=120 => 0,
@@ -69,7 +70,7 @@ fn allowed(kind: u32, value: u32) -> bool {
 
 #[test]
 fn every_call_is_answered() {
-    let mut random = Random::from_seed(77);
+    let mut random = Random::new(77);
     let mut program = [0_u32; ROOM];
     let mut rom = [0_u16; ROOM];
     let mut ram = [0_u16; ROOM];
@@ -77,12 +78,12 @@ fn every_call_is_answered() {
     for call in 0..CALLS {
         if call % 500 == 0 {
             let wide = random.flag();
-            program.fill_with(|| random.next() >> if wide { 8 } else { 9 });
-            rom.fill_with(|| random.register() >> if wide { 2 } else { 3 });
-            ram.fill_with(|| random.register());
+            program.fill_with(|| random.below(if wide { 1 << 24 } else { 1 << 23 }));
+            rom.fill_with(|| random.word() >> if wide { 2 } else { 3 });
+            ram.fill_with(|| random.word());
         }
-        program[random.below(ROOM as u32) as usize] = random.next();
-        rom[random.below(ROOM as u32) as usize] = random.register();
+        program[random.place(ROOM)] = random.next() as u32;
+        rom[random.place(ROOM)] = random.word();
 
         let (words, cells, ram_cells) = (length(&mut random, 512), length(&mut random, 512), length(&mut random, 128));
         let before = registers(&mut random);

@@ -1,7 +1,8 @@
 //! Events 1, 2 and 3: the host's accesses.
 
+use crate::fitting_registers::fitting_registers;
 use crate::machine::{recognisable, Machine};
-use crate::random::Random;
+use random::Random;
 
 fn with_sr(sr: u16) -> Machine {
     let mut machine = recognisable();
@@ -81,11 +82,11 @@ fn other_bits_of_sr_do_not_matter() {
 /// Two machines that agree on DR and SR.
 #[test]
 fn dr_and_sr_alone_decide_the_byte() {
-    let mut random = Random::from_seed(9);
+    let mut random = Random::new(9);
     for _ in 0..2000 {
         let (mut one, mut two) = (recognisable(), recognisable());
-        one.registers = random.registers();
-        two.registers = random.registers();
+        one.registers = fitting_registers(&mut random);
+        two.registers = fitting_registers(&mut random);
         (two.registers.dr, two.registers.sr) = (one.registers.dr, one.registers.sr);
         let expected = match one.registers.sr & 0x1400 {
             0x1000 => one.registers.dr >> 8,

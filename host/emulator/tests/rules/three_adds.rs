@@ -2,7 +2,7 @@
 
 use crate::assemble::{alu, dst, ldi, mov, op, psel, src, Op};
 use crate::machine::{empty, Machine};
-use crate::random::Random;
+use random::Random;
 
 fn add_m(machine: &mut Machine, k: u16, l: u16) {
     machine.run_word(ldi(k.into(), dst::K));
@@ -47,10 +47,10 @@ fn up_to_three_adds_stay_within_the_allowance() {
         (register as i16).into()
     }
     let near_the_ends = [0x8000, 0x8001, 0x7fff, 0x7ffe, 0xffff, 0, 1];
-    let mut random = Random::from_seed(3);
+    let mut random = Random::new(3);
     let mut pick = || match random.below(3) {
-        0 => near_the_ends[random.below(7) as usize],
-        _ => random.register(),
+        0 => random.pick(&near_the_ends),
+        _ => random.word(),
     };
     for _ in 0..20_000 {
         let mut machine = empty();

@@ -1,9 +1,10 @@
 //! The trial desk differs from the rules in the time of DPH-M and in nothing else.
 
 use crate::assemble::{dst, op, rt, src, Op};
+use crate::fitting_registers::fitting_registers;
 use crate::machine::{recognisable, Machine, DONE, HERE, NEXT};
-use crate::random::Random;
 use emulator::{trial, Reply};
+use random::Random;
 
 const DPH_M: u32 = 7 << 9;
 
@@ -78,11 +79,11 @@ fn a_refused_word_leaves_dp_as_it_was() {
 
 #[test]
 fn without_dphm_both_agree() {
-    let mut random = Random::from_seed(77);
+    let mut random = Random::new(77);
     let mut refused = 0;
     for _ in 0..20_000 {
         let mut chip = recognisable();
-        chip.registers = random.registers();
+        chip.registers = fitting_registers(&mut random);
         let mut word = random.below(1 << 23);
         if word < 1 << 22 {
             word &= !DPH_M;
@@ -98,10 +99,10 @@ fn without_dphm_both_agree() {
 
 #[test]
 fn events_that_run_no_word_agree() {
-    let mut random = Random::from_seed(20);
+    let mut random = Random::new(20);
     for _ in 0..2_000 {
         let mut chip = recognisable();
-        chip.registers = random.registers();
+        chip.registers = fitting_registers(&mut random);
         let mut desk = chip.clone();
         let (kind, value) = (1 + random.below(8), random.below(300) * random.below(2));
         let reply = chip.event(kind, value);
