@@ -16,42 +16,54 @@ endif
 SEED = 1
 EVENTS = 200000000
 
-.PHONY: run cases test generated compare compare-long damaged-long lib desk bench refusals clean
+# A whole sitting: `make sitting SECONDS_A_TRACK=3600`.
+SECONDS_A_TRACK = 600
+
+# Where `make install` puts things; with DESTDIR, below that folder.
+PREFIX ?= /usr/local
+
+.PHONY: run cases test kit generated format compare compare-long damaged-long lib desk install uninstall test-report sitting bench refusals clean
 
 # A small example on the desk: three tones mixed to a track, checked against exact arithmetic. The program is left in dist/desk.
 run: desk
 	@dist/desk example dist/example
 
 # The bench list: what the rules expect and what the compiled machine answers.
-cases:
-	@mkdir -p target
-	@echo 'proving what the bench list runs (about three minutes the first time)' >&2
-	@rt check bench >target/run.log 2>&1 || { cat target/run.log >&2; exit 1; }
+cases: kit
+	@echo 'proving what is new in what the bench list runs, a line a crate (about three minutes the first time)' >&2
+	@tools/proving target/run.log rt check bench
 	@$(FOR_X86_64) ./target/bin/bench
 
-test: generated
+test: kit generated
 	@tools/gate
+
+# Stops where the kit that proves is missing or another.
+kit:
+	@tools/kit
 
 # What a script writes or checks against the proved sources: the record's setters, the C header.
 generated:
 	@tools/setters --check
 	@tools/header --check
 
-# The desk's library and its header.
+# The desk's library and its header, proved and compiled anew where what they are built from has changed.
 lib:
-	@mkdir -p target dist
-	@[ -f target/staticlib/libboard.a ] || echo 'proving the core (about three minutes the first time)' >&2
-	@rt staticlib board >target/lib.log 2>&1 || { cat target/lib.log >&2; exit 1; }
-	@cp target/staticlib/libboard.a dist/libbemulatsho.a
-	@cp include/bemulatsho.h dist/bemulatsho.h
+	@tools/library
 
-# The scripts that judge, the library from C, C++ and Rust, and the proved core against the independent emulator.
-compare: lib
+# The Rust sources: their layout, and what clippy says.
+format: lib
+	@tools/format
+
+# The scripts that judge and build, the library from C, C++ and Rust, and the proved core against the independent emulator.
+compare: format
 	@tests/gate
 	@tests/refusals
+	@tests/kit
+	@tests/library
 	@$(FOR_X86_64) tests/c/run dist
 	@$(FOR_X86_64) tests/readme dist
 	@tests/first_commands
+	@$(FOR_X86_64) tests/install
 	@cd host && $(CARGO) test --release
 	@cd host && $(CARGO) run --release --package compare
 
@@ -61,11 +73,29 @@ compare-long: lib
 # The desk program.
 desk: lib
 	@cd host && $(CARGO) build --release --package desk
-	@cp $(BUILT)/desk dist/desk
+	@cmp -s $(BUILT)/desk dist/desk || install $(BUILT)/desk dist/desk
+
+# Library, header, pkg-config file, desk and man page. Root installs what the owner of this folder built and builds nothing there itself.
+ifneq ($(shell test "$$(id -u)" = 0 -a "$$(stat -c %u .)" != 0 && echo for another),for another)
+install: desk
+endif
+install:
+	@PREFIX='$(PREFIX)' DESTDIR='$(DESTDIR)' tools/install
+
+uninstall:
+	@PREFIX='$(PREFIX)' DESTDIR='$(DESTDIR)' tools/install --remove
 
 # Some million damaged scripts and sound files; the gate tries some thousand.
 damaged-long: lib
 	@cd host && DAMAGED=3000000 $(CARGO) test --release --package desk --test damaged -- --nocapture
+
+# The report page that `desk check-track --report` writes, as a person sees it.
+test-report: desk
+	@$(FOR_X86_64) tests/report
+
+# A sitting of many tracks, checked from beginning to end.
+sitting: lib
+	@cd host && SITTING_SECONDS=$(SECONDS_A_TRACK) $(CARGO) test --release --package desk --test sitting -- --nocapture
 
 # Words a second, instructions a word and chips carried; callgrind counts the instructions.
 ifeq ($(FOR_X86_64),)
@@ -78,7 +108,7 @@ bench:
 endif
 
 # Tries the must-fail edits and prints why each is refused.
-refusals:
+refusals: kit
 	@mkdir -p target
 	@rt must-fail >target/must-fail.log 2>&1 || { cat target/must-fail.log >&2; exit 1; }
 	@tools/refusals
