@@ -2,14 +2,33 @@
 
 use std::fmt;
 use std::path::Path;
-use std::rc::Rc;
 
-/// A place in a text, counted from 1 as editors count.
-#[derive(Clone, Debug, PartialEq, Eq)]
+/// A place in a script or record. The name of a file lives as long as the program, so that a place costs nothing to keep.
+#[derive(Clone, Copy, Debug, PartialEq, Eq)]
 pub struct Place {
-    pub file: Rc<Path>,
-    pub line: usize,
-    pub column: usize,
+    pub file: &'static Path,
+    pub spot: Spot,
+}
+
+/// Where in the file, counted from 1 as editors count: by line in a text, by statement in a compact record.
+#[derive(Clone, Copy, Debug, PartialEq, Eq)]
+pub enum Spot {
+    Line { line: u64, column: usize },
+    Statement(u64),
+}
+
+/// Keeps a file's name for the places in it.
+pub fn named(file: &Path) -> &'static Path {
+    Box::leak(file.to_path_buf().into_boxed_path())
+}
+
+impl fmt::Display for Place {
+    fn fmt(&self, f: &mut fmt::Formatter) -> fmt::Result {
+        match self.spot {
+            Spot::Line { line, column } => write!(f, "{}:{line}:{column}", self.file.display()),
+            Spot::Statement(number) => write!(f, "{}: statement {number}", self.file.display()),
+        }
+    }
 }
 
 /// Whether a script or check failed, or the use or the input was bad: exit status 1 or 2.
@@ -33,8 +52,8 @@ impl Fault {
     }
 
     /// Bad input at a place.
-    pub fn bad_at(place: &Place, message: impl Into<String>) -> Fault {
-        Fault { status: Status::Bad, place: Some(place.clone()), message: message.into() }
+    pub fn bad_at(place: Place, message: impl Into<String>) -> Fault {
+        Fault { status: Status::Bad, place: Some(place), message: message.into() }
     }
 
     /// A check that failed, of no place in a text.
@@ -43,8 +62,8 @@ impl Fault {
     }
 
     /// A check that failed at a place.
-    pub fn failed_at(place: &Place, message: impl Into<String>) -> Fault {
-        Fault { status: Status::Failed, place: Some(place.clone()), message: message.into() }
+    pub fn failed_at(place: Place, message: impl Into<String>) -> Fault {
+        Fault { status: Status::Failed, place: Some(place), message: message.into() }
     }
 
     /// A file that could not be read or written.
@@ -55,8 +74,8 @@ impl Fault {
 
 impl fmt::Display for Fault {
     fn fmt(&self, f: &mut fmt::Formatter) -> fmt::Result {
-        if let Some(place) = &self.place {
-            write!(f, "{}:{}:{}: ", place.file.display(), place.line, place.column)?;
+        if let Some(place) = self.place {
+            write!(f, "{place}: ")?;
         }
         f.write_str(&self.message)
     }

@@ -1,23 +1,109 @@
-//! Files that are written whole or not at all.
+//! Files that are written whole or not at all, and never over a file that is read.
 
 use crate::fault::Fault;
 use std::fs::{self, File, OpenOptions};
-use std::io::{self, ErrorKind, Write};
+use std::io::{self, ErrorKind, Seek, SeekFrom, Write};
+use std::os::unix::fs::MetadataExt;
 use std::path::{Path, PathBuf};
 
-/// Writes a file under another name beside it and renames it when it is complete. After a fault the old file is as it was.
+/// Whether a name is that of standard input or output.
+pub fn is_standard(file: &Path) -> bool {
+    file.as_os_str() == "-"
+}
+
+/// A file under another name beside its target, which takes the target's place when it is complete. Dropped before that, it is gone, and the old
+/// file is as it was.
+pub struct NewFile {
+    file: File,
+    beside: PathBuf,
+    target: PathBuf,
+    /// As it was given, for messages.
+    path: PathBuf,
+}
+
+impl NewFile {
+    pub fn create(path: &Path) -> Result<NewFile, Fault> {
+        let failed = |error: io::Error| Fault::of_file(path, "write", &error);
+        // A link to a file stays a link: the file that it names is replaced.
+        let target = fs::canonicalize(path).unwrap_or_else(|_| path.to_path_buf());
+        let old = may_be_replaced(&target).map_err(failed)?;
+        let (file, beside) = new_file_beside(&target).map_err(failed)?;
+        let new = NewFile { file, beside, target, path: path.to_path_buf() };
+        old.map_or(Ok(()), |permissions| new.file.set_permissions(permissions)).map_err(failed)?;
+        Ok(new)
+    }
+
+    /// The file is complete.
+    pub fn finish(self) -> Result<(), Fault> {
+        let finished = self.file.sync_all().and_then(|()| fs::rename(&self.beside, &self.target));
+        finished.map_err(|error| self.fault(&error))
+    }
+
+    pub fn fault(&self, error: &io::Error) -> Fault {
+        Fault::of_file(&self.path, "write", error)
+    }
+}
+
+impl Drop for NewFile {
+    fn drop(&mut self) {
+        // After `finish` nothing stands there any more; what is told is the first error, whether or not this one fails too.
+        let _ = fs::remove_file(&self.beside);
+    }
+}
+
+impl Write for NewFile {
+    fn write(&mut self, bytes: &[u8]) -> io::Result<usize> {
+        self.file.write(bytes)
+    }
+
+    fn flush(&mut self) -> io::Result<()> {
+        self.file.flush()
+    }
+}
+
+impl Seek for NewFile {
+    fn seek(&mut self, to: SeekFrom) -> io::Result<u64> {
+        self.file.seek(to)
+    }
+}
+
+/// Writes a file whose bytes are at hand.
 pub fn write_whole(path: &Path, bytes: &[u8]) -> Result<(), Fault> {
-    let failed = |error: io::Error| Fault::of_file(path, "write", &error);
-    // A link stays a link: the file that it names is replaced.
-    let target = fs::canonicalize(path).unwrap_or_else(|_| path.to_path_buf());
-    let old = may_be_replaced(&target).map_err(failed)?;
-    let (file, beside) = new_file_beside(&target).map_err(failed)?;
-    let written = filled(file, bytes, old).and_then(|()| fs::rename(&beside, &target));
-    written.map_err(|error| {
-        // What is told is the first error, whether or not this one fails too.
-        let _ = fs::remove_file(&beside);
-        failed(error)
-    })
+    let mut file = NewFile::create(path)?;
+    file.write_all(bytes).map_err(|error| file.fault(&error))?;
+    file.finish()
+}
+
+/// No file that is to be written is one that is read, or another that is written.
+pub fn replace_no_input(outputs: &[&Path], inputs: &[PathBuf]) -> Result<(), Fault> {
+    for (at, output) in outputs.iter().enumerate() {
+        if let Some(input) = inputs.iter().find(|input| is_same(output, input)) {
+            return Err(Fault::bad(format!(
+                "{}: would replace {}, which is read: expected another file",
+                output.display(),
+                input.display()
+            )));
+        }
+        if outputs.iter().skip(at + 1).any(|other| is_same(output, other)) {
+            return Err(Fault::bad(format!("{}: to be written twice: expected two files", output.display())));
+        }
+    }
+    Ok(())
+}
+
+/// Whether two paths lead to one file, by whatever names or links, or by a redirection.
+fn is_same(one: &Path, other: &Path) -> bool {
+    let other = if is_standard(other) { Path::new("/dev/stdin") } else { other };
+    match (fs::metadata(one), fs::metadata(other)) {
+        (Ok(one), Ok(other)) => (one.dev(), one.ino()) == (other.dev(), other.ino()),
+        _ => placed(one) == placed(other),
+    }
+}
+
+/// A path with its folder's own name, for a file that may not be there yet.
+fn placed(path: &Path) -> PathBuf {
+    let folder = path.parent().filter(|folder| !folder.as_os_str().is_empty()).unwrap_or(Path::new("."));
+    fs::canonicalize(folder).map_or_else(|_| path.to_path_buf(), |folder| folder.join(path.file_name().unwrap_or_default()))
 }
 
 /// The permissions of the old file, if there is one. A folder, a device or a file that is not to be written is left alone.
@@ -51,14 +137,6 @@ fn new_file_beside(target: &Path) -> io::Result<(File, PathBuf)> {
     Err(io::Error::new(ErrorKind::AlreadyExists, "too many unfinished files beside it"))
 }
 
-fn filled(mut file: File, bytes: &[u8], permissions: Option<fs::Permissions>) -> io::Result<()> {
-    if let Some(permissions) = permissions {
-        file.set_permissions(permissions)?;
-    }
-    file.write_all(bytes)?;
-    file.sync_all()
-}
-
 #[cfg(test)]
 mod tests {
     use super::*;
@@ -82,6 +160,36 @@ mod tests {
             assert_eq!(fs::read(&file).unwrap(), bytes);
         }
         assert_eq!(names(&folder), ["track.wav"]);
+        fs::remove_dir_all(folder).unwrap();
+    }
+
+    #[test]
+    fn an_unfinished_file_leaves_the_old_one() {
+        let folder = folder("unfinished");
+        let file = folder.join("track.wav");
+        fs::write(&file, b"kept").unwrap();
+        let mut new = NewFile::create(&file).unwrap();
+        new.write_all(b"half").unwrap();
+        assert_eq!(names(&folder).len(), 2);
+        drop(new);
+        assert_eq!((names(&folder), fs::read(&file).unwrap()), (vec!["track.wav".to_string()], b"kept".to_vec()));
+        fs::remove_dir_all(folder).unwrap();
+    }
+
+    #[test]
+    fn a_file_that_is_read_is_not_replaced_by_whatever_name() {
+        let folder = folder("inputs");
+        let (read, link, hard) = (folder.join("read"), folder.join("link"), folder.join("hard"));
+        fs::write(&read, b"read").unwrap();
+        std::os::unix::fs::symlink("read", &link).unwrap();
+        fs::hard_link(&read, &hard).unwrap();
+        let inputs = [folder.join("none"), read.clone()];
+        for output in [&read, &link, &hard, &folder.join("./read"), &folder.join("../").join(folder.file_name().unwrap()).join("none")] {
+            assert!(replace_no_input(&[output], &inputs).is_err(), "{}", output.display());
+        }
+        let (new, other) = (folder.join("new"), folder.join("other"));
+        assert_eq!(replace_no_input(&[&new, &other], &inputs), Ok(()));
+        assert!(replace_no_input(&[&new, &folder.join("./new")], &inputs).is_err());
         fs::remove_dir_all(folder).unwrap();
     }
 

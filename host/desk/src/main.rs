@@ -1,8 +1,8 @@
 //! `desk`: exit status 0 done, 1 a script or check failed, 2 bad use or bad input.
 
+use desk::commands::{check_track, convert, example, help, mix, run, trace, version};
 use desk::fault::Fault;
-use desk::{check_track, example, help, mix, run, trace};
-use std::io::Write;
+use desk::output::tell;
 use std::process::ExitCode;
 
 fn main() -> ExitCode {
@@ -10,25 +10,35 @@ fn main() -> ExitCode {
         Ok(arguments) => arguments,
         Err(word) => return ended(Err(Fault::bad(format!("{word:?}: an argument that is no text")))),
     };
+    ended(version::library_fits().and_then(|()| command(&arguments)))
+}
+
+fn command(arguments: &[String]) -> Result<(), Fault> {
     let rest = arguments.get(1..).unwrap_or(&[]);
-    ended(match arguments.first().map(String::as_str) {
-        Some("run") => run::command(rest),
-        Some("trace") => trace::command(rest),
-        Some("check-track") => check_track::command(rest),
-        Some("mix") => mix::command(rest),
-        Some("example") => example::command(rest),
-        Some("help" | "--help" | "-h") => help::command(rest),
-        Some(other) => Err(Fault::bad(format!("{other:?} is no command: see `desk help`"))),
-        None => Err(Fault::bad("no command: see `desk help`")),
-    })
+    let name = arguments.first().map(String::as_str).unwrap_or("");
+    let asks_for_help = rest.iter().take_while(|word| *word != "--").any(|word| matches!(word.as_str(), "--help" | "-h"));
+    if asks_for_help && help::is_command(name) {
+        return help::command(&arguments[..1]);
+    }
+    match name {
+        "run" => run::command(rest),
+        "trace" => trace::command(rest),
+        "check-track" => check_track::command(rest),
+        "mix" => mix::command(rest),
+        "convert" => convert::command(rest),
+        "example" => example::command(rest),
+        "help" | "--help" | "-h" => help::command(rest),
+        "--version" | "-V" => version::command(rest),
+        "" => Err(Fault::bad("no command: see `desk help`")),
+        other => Err(help::no_command(other)),
+    }
 }
 
 fn ended(result: Result<(), Fault>) -> ExitCode {
     match result {
         Ok(()) => ExitCode::SUCCESS,
         Err(fault) => {
-            // Where nobody can be told, the status still tells.
-            let _ = writeln!(std::io::stderr(), "desk: {fault}");
+            tell(&fault.to_string());
             ExitCode::from(fault.status as u8)
         }
     }

@@ -1,7 +1,15 @@
 //! Numbers as the manual writes them: 1234H is hexadecimal, 1234 decimal.
 
+/// How numbers are written, for messages.
+pub const WRITTEN: &str = "numbers are written 1234H or 4660";
+
 /// The number of a text, if it is one that 32 bits hold.
 pub fn parse(text: &str) -> Option<u32> {
+    parse_long(text).and_then(|number| u32::try_from(number).ok())
+}
+
+/// The number of a text, if it is one that 64 bits hold.
+pub fn parse_long(text: &str) -> Option<u64> {
     let (digits, radix) = match text.strip_suffix(['H', 'h']) {
         Some(digits) => (digits, 16),
         None => (text, 10),
@@ -10,7 +18,7 @@ pub fn parse(text: &str) -> Option<u32> {
     if digits.is_empty() || !digits.bytes().all(|byte| byte.is_ascii_alphanumeric()) {
         return None;
     }
-    u32::from_str_radix(digits, radix).ok()
+    u64::from_str_radix(digits, radix).ok()
 }
 
 /// Four digits and an H.
@@ -46,5 +54,8 @@ mod tests {
         for text in ["", "H", "12A", "-1", "+1", "0x10", "1_000", "100000000H", "4294967296", "1 2", "１"] {
             assert_eq!(parse(text), None, "{text:?}");
         }
+        assert_eq!(parse_long("4294967296"), Some(1 << 32));
+        assert_eq!(parse_long("0FFFFFFFFFFFFFFFFH"), Some(u64::MAX));
+        assert_eq!(parse_long("10000000000000000H"), None);
     }
 }

@@ -1,22 +1,25 @@
-//! What is printed: one buffered writer over standard output. A reader that closed its end is no fault.
+//! What is printed: one buffered writer over standard output. A reader that closed its end is no fault and changes no verdict.
 
 use crate::fault::Fault;
-use std::io::{self, BufWriter, StdoutLock, Write};
+use std::io::{self, BufWriter, Stdout, Write};
 use std::path::Path;
 
 pub struct Output {
-    writer: BufWriter<StdoutLock<'static>>,
+    writer: BufWriter<Stdout>,
     /// Nobody reads any more.
     closed: bool,
 }
 
 impl Output {
     pub fn new() -> Output {
-        Output { writer: BufWriter::new(io::stdout().lock()), closed: false }
+        Output { writer: BufWriter::new(io::stdout()), closed: false }
     }
 
     /// Prints a text as it is.
     pub fn print(&mut self, text: &str) -> Result<(), Fault> {
+        if self.closed {
+            return Ok(());
+        }
         let result = self.writer.write_all(text.as_bytes());
         self.told(result)
     }
@@ -29,12 +32,11 @@ impl Output {
 
     /// Everything printed so far is on its way.
     pub fn flush(&mut self) -> Result<(), Fault> {
+        if self.closed {
+            return Ok(());
+        }
         let result = self.writer.flush();
         self.told(result)
-    }
-
-    pub fn is_closed(&self) -> bool {
-        self.closed
     }
 
     fn told(&mut self, result: io::Result<()>) -> Result<(), Fault> {
@@ -53,4 +55,9 @@ impl Default for Output {
     fn default() -> Output {
         Output::new()
     }
+}
+
+/// Tells something on the standard error, beside the verdict. Where nobody can be told, the status still tells.
+pub fn tell(text: &str) {
+    let _ = writeln!(io::stderr(), "desk: {text}");
 }

@@ -1,25 +1,14 @@
-//! Damaged scripts and sound files: nothing panics, and what is accepted is sound. Some thousand by default, as many as DAMAGED says in a
-//! long run (`make damaged-long`); the sequence is the same every time.
+//! Damaged scripts, records and sound files: nothing panics, and what is accepted is sound. Some thousand by default, as many as DAMAGED
+//! says in a long run (`make damaged-long`); the sequence is the same every time.
 
-use desk::{script, wav};
+use desk::fault::Spot;
+use desk::records::compact::{Reader, Writer};
+use desk::records::{self, Form};
+use desk::scripts::reader::read_text;
+use desk::scripts::statement::Action;
+use desk::sound::wav::{self, Sound};
+use random::Random;
 use std::path::Path;
-
-/// A reproducible sequence of numbers (splitmix64).
-struct Random(u64);
-
-impl Random {
-    fn next(&mut self) -> u64 {
-        self.0 = self.0.wrapping_add(0x9e37_79b9_7f4a_7c15);
-        let mut z = self.0;
-        z = (z ^ (z >> 30)).wrapping_mul(0xbf58_476d_1ce4_e5b9);
-        z = (z ^ (z >> 27)).wrapping_mul(0x94d0_49bb_1331_11eb);
-        z ^ (z >> 31)
-    }
-
-    fn below(&mut self, limit: usize) -> usize {
-        (self.next() % limit.max(1) as u64) as usize
-    }
-}
 
 fn how_many() -> u64 {
     std::env::var("DAMAGED").ok().and_then(|count| count.parse().ok()).unwrap_or(5000)
@@ -29,7 +18,7 @@ fn how_many() -> u64 {
 fn damaged(random: &mut Random, whole: &[u8]) -> Vec<u8> {
     let mut bytes = whole.to_vec();
     for _ in 0..=random.below(8) {
-        let (at, other) = (random.below(bytes.len()), random.below(bytes.len()));
+        let (at, other) = (random.place(bytes.len()), random.place(bytes.len()));
         let (from, to) = (at.min(other), at.max(other));
         match random.below(5) {
             _ if bytes.is_empty() => bytes.push(random.next() as u8),
@@ -40,29 +29,33 @@ fn damaged(random: &mut Random, whole: &[u8]) -> Vec<u8> {
                 let part = bytes[from..to.min(from + 64)].to_vec();
                 bytes.splice(at..at, part);
             }
-            _ => bytes.truncate(bytes.len() - random.below(bytes.len().min(64))),
+            _ => bytes.truncate(bytes.len() - random.place(bytes.len().min(64))),
         }
     }
     bytes
 }
 
 const SCRIPT: &[u8] = b"# a script with every statement\n\
-    program 0: 501000H 624681H 0\nrom 511: 1FFFH\nram 7FH: 0FFFFH\nset A 1234H\nset OVA1 1\nset DEPTH 4\n\
+    rate 48000\nsources booth \"the floor\" relay\n\
+    program 0: 501000H 624681H 0\nrom 511: 1FFFH\nram 7FH: 0FFFFH\npatch ram 7FH: 1\nset A 1234H\nset OVA1 1\nset DEPTH 4\n\
     event 0 3\nreply 0 words 3 value 0\nrun 65535\nin 8000H\nout\nsent 1000H\nread\nwrite 255\nstatus\ninterrupt\nreset\n\
-    expect PC 100H\nexpect ram 127 0FFFFH\nshow\n";
+    expect PC 100H\nexpect ram 127 0FFFFH\nshow\nsamples 1\n";
 
 #[test]
 fn damaged_scripts_are_read_or_refused_with_a_place() {
-    let mut random = Random(0x7720);
+    let mut random = Random::new(0x7720);
     let (mut read, mut refused) = (0, 0);
     for _ in 0..how_many() {
         let text = damaged(&mut random, SCRIPT);
-        match script::read_text(Path::new("damaged"), &text) {
-            Ok(_) => read += 1,
+        match read_text(Path::new("damaged"), &text) {
+            Ok(statements) => {
+                written_again(statements.into_iter().map(|statement| statement.action).collect());
+                read += 1;
+            }
             Err(fault) => {
-                let place = fault.place.expect("a fault of a script has its place");
-                let lines = text.split(|byte| *byte == b'\n').count();
-                assert!((1..=lines).contains(&place.line) && place.column >= 1 && !fault.message.is_empty());
+                let Some(Spot::Line { line, column }) = fault.place.map(|place| place.spot) else { panic!("no place: {fault}") };
+                let lines = text.split(|byte| *byte == b'\n').count() as u64;
+                assert!((1..=lines).contains(&line) && column >= 1 && !fault.message.is_empty());
                 refused += 1;
             }
         }
@@ -70,13 +63,64 @@ fn damaged_scripts_are_read_or_refused_with_a_place() {
     assert!(read > 0 && refused > 0, "{read} were read and {refused} refused");
 }
 
+/// What was read is read from the text that says it, as the same.
+fn written_again(actions: Vec<Action>) {
+    let text: String = actions.iter().map(|action| format!("{action}\n")).collect();
+    let again = read_text(Path::new("again"), text.as_bytes()).unwrap_or_else(|fault| panic!("{fault}: {text}"));
+    assert!(again.into_iter().map(|statement| statement.action).eq(actions), "{text}");
+}
+
+/// A compact record of the script with some samples more.
+fn compact() -> Vec<u8> {
+    let samples = "in 1234H\nrun 20\nout\nsent 0FEDH\nin 4321H\nrun 21\nout\nsent 1\n".repeat(20);
+    let script = String::from_utf8_lossy(SCRIPT).replace("samples 1\n", &format!("{samples}samples 41\n"));
+    let mut writer = Writer::new(Vec::new()).expect("a record");
+    for statement in read_text(Path::new("whole"), script.as_bytes()).expect("a script") {
+        writer.write(&statement.action).expect("a record");
+    }
+    writer.finish().expect("a record")
+}
+
+#[test]
+fn damaged_compact_records_are_never_taken_for_whole() {
+    let whole = compact();
+    assert_eq!(records::form(&whole), Form::Compact);
+    assert!(is_whole(&whole));
+    let mut random = Random::new(0x7721);
+    let mut undone = 0;
+    for _ in 0..how_many() {
+        let record = damaged(&mut random, &whole);
+        if record == whole {
+            undone += 1;
+        } else {
+            assert!(!is_whole(&record), "{}", record.escape_ascii());
+        }
+    }
+    assert!(undone < how_many() / 10, "{undone} were as before");
+}
+
+/// Whether all statements are handed out, up to the end.
+fn is_whole(record: &[u8]) -> bool {
+    let mut reader = Reader::new(Path::new("damaged"), record);
+    loop {
+        match reader.next() {
+            Ok(Some(_)) => {}
+            Ok(None) => return true,
+            Err(stop) => {
+                assert!(!stop.fault().message.is_empty());
+                return false;
+            }
+        }
+    }
+}
+
 /// A sound file with a chunk that is none of ours, damaged; the header's size is made good one time in two, so that the chunks are reached.
 fn damaged_sound(random: &mut Random) -> Vec<u8> {
     let samples = (0..random.below(40)).map(|_| random.next() as i16).collect();
-    let mut whole = wav::bytes(&wav::Sound { rate: 8000, samples });
+    let mut whole = wav::bytes(&Sound { rate: 8000, samples });
     whole.splice(36..36, *b"odd \x05\0\0\0abcde\0");
     let mut bytes = damaged(random, &whole);
-    if random.below(2) == 0 && bytes.len() >= 8 {
+    if random.flag() && bytes.len() >= 8 {
         let size = (bytes.len() - 8) as u32;
         bytes[4..8].copy_from_slice(&size.to_le_bytes());
     }
@@ -85,7 +129,7 @@ fn damaged_sound(random: &mut Random) -> Vec<u8> {
 
 #[test]
 fn damaged_sound_files_are_read_or_refused() {
-    let mut random = Random(0x77c2);
+    let mut random = Random::new(0x77c2);
     let (mut read, mut refused) = (0, 0);
     for _ in 0..how_many() {
         match wav::parse(Path::new("damaged"), &damaged_sound(&mut random)) {

@@ -1,4 +1,5 @@
-//! Programs that speed is measured on, and a yardstick for the machine.
+//! What speed is measured on, and a yardstick for the machine.
 
 pub mod programs;
+pub mod tracks;
 pub mod yardstick;

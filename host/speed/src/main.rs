@@ -1,9 +1,9 @@
 //! Words a second of the proved core, through the C interface with 65535 words a call, and of the emulator, on the same programs in
-//! turn; the instructions that a word takes by callgrind; how many chips one core carries; and what the processor could do meanwhile.
-//! A measurement, and no test.
+//! turn; the instructions that a word takes by callgrind; how many chips one core carries; what the processor could do meanwhile; and
+//! how fast the desk mixes and checks tracks. A measurement, and no test.
 
 use speed::programs::{self, Program};
-use speed::yardstick;
+use speed::{tracks, yardstick};
 use std::process::{exit, Command};
 use std::time::{Duration, Instant};
 
@@ -101,7 +101,11 @@ fn missed(place: usize, ratio: f64, instructions: Option<f64>, chips: f64) -> St
     if chips < 30.0 {
         missed.push("30 chips");
     }
-    if missed.is_empty() { String::new() } else { format!("  misses {}", missed.join(", ")) }
+    if missed.is_empty() {
+        String::new()
+    } else {
+        format!("  misses {}", missed.join(", "))
+    }
 }
 
 fn table(programs: &[Program]) {
@@ -119,7 +123,10 @@ fn table(programs: &[Program]) {
         let chips = core * 1e6 / CHIP;
         let missed = place.filter(|place| *place < programs::LOOPS).map_or(String::new(), |place| missed(place, ratio, counted, chips));
         let range = format!("{least:.0}, {most:.0}");
-        println!("{:<14}{core:>8.1}{range:>14}{emulator:>10.1}{ratio:>8.2}{printed:>14}{additions:>11.1}{chips:>8.0}{missed}", program.name);
+        println!(
+            "{:<14}{core:>8.1}{range:>14}{emulator:>10.1}{ratio:>8.2}{printed:>14}{additions:>11.1}{chips:>8.0}{missed}",
+            program.name
+        );
     }
 }
 
@@ -139,14 +146,25 @@ fn count(place: &str, calls: &str) {
     }
 }
 
+fn tracks_table() {
+    if let Err(message) = tracks::table() {
+        eprintln!("speed: {message}");
+        exit(1);
+    }
+}
+
 fn main() {
     let arguments: Vec<String> = std::env::args().skip(1).collect();
     match arguments.iter().map(String::as_str).collect::<Vec<_>>()[..] {
-        [] => table(&programs::all()[..programs::LOOPS]),
+        [] => {
+            table(&programs::all()[..programs::LOOPS]);
+            tracks_table();
+        }
+        ["tracks"] => tracks_table(),
         ["words"] => table(&programs::all()[programs::LOOPS..]),
         ["count", place, calls] => count(place, calls),
         _ => {
-            eprintln!("usage: speed | speed words | speed count PROGRAM CALLS");
+            eprintln!("usage: speed | speed words | speed tracks | speed count PROGRAM CALLS");
             exit(2);
         }
     }

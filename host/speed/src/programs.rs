@@ -12,8 +12,8 @@ pub struct Program {
 /// Adds products of RAM and data ROM and sends the sum. After 20 million words from fresh registers its state is known from
 /// other emulators of the chip, with data ROM and RAM from a linear congruence.
 const MIXING_LOOP: [u32; 15] = [
-    0x600004, 0x601fe5, 0x098010, 0x09c020, 0x0011fb, 0x1ac030, 0x138030, 0x4b0090, 0x500040, 0x4980b0, 0x000071, 0x000219, 0x00101f, 0x00002f,
-    0x500000,
+    0x600004, 0x601fe5, 0x098010, 0x09c020, 0x0011fb, 0x1ac030, 0x138030, 0x4b0090, 0x500040, 0x4980b0, 0x000071, 0x000219, 0x00101f,
+    0x00002f, 0x500000,
 ];
 
 /// PC, A, B, K, L, DP, RP and SO of the mixing loop after 20 million words.

@@ -1,50 +1,61 @@
 //! The help and the man page tell the truth: every example in them runs.
 
-use crate::folder::Folder;
-use std::path::{Path, PathBuf};
-use std::process::{Command, Output};
-
-fn desk(folder: &Path, arguments: &[&str]) -> Output {
-    Command::new(env!("CARGO_BIN_EXE_desk")).current_dir(folder).args(arguments).output().expect("desk starts")
-}
-
-fn repository() -> PathBuf {
-    Path::new(env!("CARGO_MANIFEST_DIR")).join("../..")
-}
+use crate::folder::{desk_in, repository, Folder};
+use desk::commands::help::TEXTS;
+use std::path::Path;
 
 /// The command lines that begin with `$ desk`.
-fn examples(text: &str) -> Vec<Vec<String>> {
+fn examples(text: &str) -> Vec<String> {
     let lines = text.lines().filter_map(|line| line.trim().strip_prefix("$ desk "));
-    lines.map(|line| line.split_whitespace().map(|word| word.replace("\\-", "-")).collect()).collect()
+    lines.map(|line| line.replace("\\-", "-")).collect()
 }
 
-fn succeeds(folder: &Path, arguments: &[String]) {
-    let words: Vec<&str> = arguments.iter().map(String::as_str).collect();
-    let output = desk(folder, &words);
-    assert!(output.status.success(), "desk {}: {}", arguments.join(" "), String::from_utf8_lossy(&output.stderr));
-    assert!(!output.stdout.is_empty(), "desk {} prints nothing", arguments.join(" "));
+#[track_caller]
+fn succeeds(folder: &Path, line: &str) {
+    let ran = desk_in(folder, line);
+    assert_eq!((ran.status, ran.told.as_str()), (0, ""), "desk {line}");
+    assert!(!ran.printed.is_empty(), "desk {line} prints nothing");
 }
 
 #[test]
 fn every_text_is_printed_and_its_example_runs() {
     let sound = Folder::new();
-    succeeds(&sound.0, &["example".to_string(), ".".to_string()]);
-    for (command, text) in desk::help::TEXTS {
-        let arguments: Vec<&str> = if command.is_empty() { vec!["help"] } else { vec!["help", command] };
-        let output = desk(&repository(), &arguments);
-        assert!(output.status.success());
-        assert_eq!(String::from_utf8_lossy(&output.stdout), text);
+    succeeds(&sound.0, "example .");
+    for (command, text) in TEXTS {
+        sound.desk(format!("help {command}").trim_end()).is_done(text);
         let examples = examples(text);
         assert_eq!(examples.len(), 1, "desk help {command} has one example");
-        let folder = if matches!(command, "mix" | "example") { sound.0.clone() } else { repository() };
+        let folder = if matches!(command, "mix" | "example" | "convert") { sound.0.clone() } else { repository() };
         succeeds(&folder, &examples[0]);
+    }
+}
+
+#[test]
+fn every_command_tells_its_help_when_asked() {
+    let folder = Folder::new();
+    for (command, text) in TEXTS.into_iter().filter(|(command, _)| !command.is_empty()) {
+        for line in ["--help", "some thing --other -h"] {
+            folder.desk(&format!("{command} {line}")).is_done(text);
+        }
+    }
+    for word in ["help", "--help", "-h"] {
+        folder.desk(word).is_done(TEXTS[0].1);
+    }
+    assert_eq!(folder.names(), [""; 0]);
+}
+
+#[test]
+fn the_lines_of_the_help_fit_a_terminal() {
+    for (command, text) in TEXTS {
+        let longest = text.lines().map(|line| line.chars().count()).max();
+        assert!(longest <= Some(120), "desk help {command} has a line of {longest:?} characters");
     }
 }
 
 #[test]
 fn the_man_page_names_every_command_and_its_example_runs() {
     let page = std::fs::read_to_string(repository().join("docs/desk.1")).expect("the man page");
-    for (command, _) in desk::help::TEXTS {
+    for (command, _) in TEXTS {
         let name = format!("desk {}", command.replace('-', "\\-"));
         assert!(page.contains(name.trim_end()), "{command} is not in the man page");
     }
@@ -55,16 +66,19 @@ fn the_man_page_names_every_command_and_its_example_runs() {
 
 #[test]
 fn bad_use_is_told_with_status_2() {
-    for (arguments, message) in [
-        (&[][..], "no command"),
-        (&["dance"][..], "\"dance\" is no command"),
-        (&["help", "dance"][..], "\"dance\" is no command"),
-        (&["help", "run", "mix"][..], "help takes one command"),
+    let folder = Folder::new();
+    for (line, told) in [
+        ("", "no command: see `desk help`"),
+        ("dance", "\"dance\" is no command: see `desk help`"),
+        ("rum", "\"rum\" is no command, perhaps \"run\": see `desk help`"),
+        ("check_track", "\"check_track\" is no command, perhaps \"check-track\": see `desk help`"),
+        ("Mix", "\"Mix\" is no command, perhaps \"mix\": see `desk help`"),
+        ("--quiet", "\"--quiet\" is no command: see `desk help`"),
+        ("dance --help", "\"dance\" is no command: see `desk help`"),
+        ("help dance", "\"dance\" is no command: see `desk help`"),
+        ("help converts", "\"converts\" is no command, perhaps \"convert\": see `desk help`"),
+        ("help run mix", "help takes one command: see `desk help`"),
     ] {
-        let output = desk(&repository(), arguments);
-        assert_eq!(output.status.code(), Some(2), "{arguments:?}");
-        let told = String::from_utf8_lossy(&output.stderr).into_owned();
-        assert!(told.starts_with("desk: ") && told.contains(message), "{arguments:?}: {told}");
-        assert!(output.stdout.is_empty());
+        folder.desk(line).is_refused(2, told);
     }
 }

@@ -1,9 +1,14 @@
 //! The built program as a person uses it: what it prints, what it tells on the standard error, its exit status and its files.
 
 mod check_track;
+mod closed_pipes;
+mod convert;
+mod example;
 mod folder;
 mod help;
+mod memory;
 mod mix;
 mod progress;
 mod run;
 mod trace;
+mod words;

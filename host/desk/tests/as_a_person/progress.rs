@@ -5,11 +5,10 @@ use std::process::{Command, Stdio};
 
 const LINE: &str = "\r\x1b[K";
 
-#[test]
-fn a_terminal_sees_the_share_that_is_done() {
+/// What a terminal sees of the check of a record that runs word 0 so many times 65535, and then sends one sample.
+fn seen(runs: usize) -> String {
     let folder = Folder::new();
-    // It takes a second or so: word 0 some 160 million times, then one sample.
-    folder.write("long.record", format!("set SO 1234H\nset SORQ 1\n{}out\nsent 1234H\n", "run 65535\n".repeat(2500)));
+    folder.write("long.record", format!("set SO 1234H\nset SORQ 1\n{}out\nsent 1234H\nsamples 1\n", "run 65535\n".repeat(runs)));
     // `script` gives the program a terminal and hands on what it writes there.
     let output = Command::new("script")
         .args(["--quiet", "--return", "--command"])
@@ -19,14 +18,27 @@ fn a_terminal_sees_the_share_that_is_done() {
         .stdin(Stdio::null())
         .output()
         .expect("script starts");
-    let text = String::from_utf8(output.stdout).expect("text");
-    let parts: Vec<&str> = text.split(LINE).collect();
-    let [before, shares @ .., after] = &parts[..] else { panic!("no line was rewritten: {text:?}") };
-    assert_eq!((*before, *after, output.status.code()), ("", "long.record: 1 sample, as the chip sends it\r\n", Some(0)));
-    let shares: Vec<u32> = shares
-        .iter()
-        .map(|share| share.strip_prefix("long.record (1 of 1): ").and_then(|share| share.strip_suffix(" %")))
-        .map(|share| share.and_then(|share| share.parse().ok()).unwrap_or_else(|| panic!("no share of the work: {text:?}")))
-        .collect();
-    assert!(!shares.is_empty() && shares.is_sorted() && shares.iter().all(|share| *share < 100), "{shares:?}");
+    assert_eq!(output.status.code(), Some(0));
+    String::from_utf8(output.stdout).expect("text")
+}
+
+/// The shares that were shown, each in place of the one before it, and nothing of them left at the end.
+fn shares(text: &str) -> Vec<u32> {
+    let verdict = "long.record: agrees: 1 sample, as the chip sends it\r\n1 track: agrees 1, differs 0, incomplete 0, unreadable 0\r\n";
+    let shown = text.strip_suffix(verdict).unwrap_or_else(|| panic!("the verdict is not the end: {text:?}"));
+    let Some(shown) = shown.strip_suffix(LINE) else {
+        assert_eq!(shown, "");
+        return Vec::new();
+    };
+    let share = |part: &str| part.strip_prefix("long.record: ")?.strip_suffix(" %")?.parse().ok();
+    let parts = shown.split(LINE).skip(1);
+    parts.map(|part| share(part).unwrap_or_else(|| panic!("no share of the work: {text:?}"))).collect()
+}
+
+/// The work is made longer until it takes long enough for a share to be shown, on whatever machine.
+#[test]
+fn a_terminal_sees_the_share_that_is_done() {
+    let shares = [200, 1000, 5000, 25000].into_iter().map(|runs| shares(&seen(runs))).find(|shares| !shares.is_empty());
+    let shares = shares.expect("a share is shown");
+    assert!(shares.is_sorted() && shares.iter().all(|share| *share <= 100), "{shares:?}");
 }

@@ -1,0 +1,143 @@
+//! Events and their replies in words.
+
+use bemulatsho::{kind, Reply};
+use std::fmt;
+
+/// The names of the events by their kinds.
+pub const NAMES: [&str; 8] = ["run", "read", "write", "status", "in", "out", "interrupt", "reset"];
+
+/// An event as it is given to the machine.
+#[derive(Clone, Copy, Debug, PartialEq, Eq)]
+pub struct Event {
+    pub kind: u32,
+    pub value: u32,
+}
+
+impl Event {
+    /// The event of a name, and whether its value is written behind it.
+    pub fn named(name: &str) -> Option<(u32, bool)> {
+        let kind = NAMES.iter().position(|event| event.eq_ignore_ascii_case(name))? as u32;
+        Some((kind, takes_value(kind)))
+    }
+
+    /// Its name, if it has one.
+    pub fn name(self) -> Option<&'static str> {
+        NAMES.get(self.kind as usize).copied()
+    }
+}
+
+fn takes_value(kind: u32) -> bool {
+    matches!(kind, kind::RUN | kind::HOST_WRITES | kind::SERIAL_IN)
+}
+
+/// As a script writes it. A value where none belongs is shown, since it is why the event is refused.
+impl fmt::Display for Event {
+    fn fmt(&self, f: &mut fmt::Formatter) -> fmt::Result {
+        let Event { kind, value } = *self;
+        match (self.name(), kind) {
+            (Some(name), kind::RUN) => write!(f, "{name} {value}"),
+            (Some(name), kind::HOST_WRITES) => write!(f, "{name} {value:02X}H"),
+            (Some(name), kind::SERIAL_IN) => write!(f, "{name} {value:04X}H"),
+            (Some(name), _) if value == 0 => f.write_str(name),
+            _ => write!(f, "event {kind} {value}"),
+        }
+    }
+}
+
+/// What a reply's number means, in the words of the rules.
+pub fn meaning(number: u8) -> &'static str {
+    match number {
+        0 => "done",
+        1 => "a lent image or RAM has the wrong length",
+        2 => "a register is too wide, the depth over 4, or SR bits 6 to 2 not 0",
+        3 => "event kind over 7, or value not allowed",
+        4 => "the word at PC is 2^23 or more",
+        5 => "BRCH is none of 010, 100, 101",
+        6 => "SRC none where the bus is used",
+        7 => "the data ROM cell at RP is 8192 or more",
+        8 => "RT at depth 0",
+        9 => "call, or interrupt taken, at depth 4",
+        10 => "serial out with SORQ 0",
+        11 => "a field is too wide",
+        _ => "no such number",
+    }
+}
+
+/// A refusal's number with its meaning.
+pub fn refusal(number: u8) -> String {
+    format!("refusal {number}, {}", meaning(number))
+}
+
+/// An event and what it was answered.
+#[derive(Clone, Copy, Debug)]
+pub struct Answered {
+    pub event: Event,
+    pub reply: Reply,
+}
+
+impl Answered {
+    /// The value of a reply as this event's kind has it; none where the kind has none.
+    pub fn value(&self, value: u32) -> String {
+        match self.event.kind {
+            kind::HOST_READS | kind::HOST_READS_STATUS => format!("{value:02X}H"),
+            _ => format!("{value:04X}H"),
+        }
+    }
+
+    /// Whether the reply of this kind of event has a value.
+    pub fn has_value(&self) -> bool {
+        matches!(self.event.kind, kind::HOST_READS | kind::HOST_READS_STATUS | kind::SERIAL_OUT)
+    }
+}
+
+/// The event, its reply's number with its meaning, and the words done or the value.
+impl fmt::Display for Answered {
+    fn fmt(&self, f: &mut fmt::Formatter) -> fmt::Result {
+        let Reply { number, words, value } = self.reply;
+        write!(f, "{}: {number} {}", self.event, meaning(number))?;
+        match self.event.kind {
+            kind::RUN => write!(f, ", {}", counted(u32::from(words))),
+            _ if self.has_value() => write!(f, ", value {}", self.value(u32::from(value))),
+            _ => Ok(()),
+        }
+    }
+}
+
+/// A number of words, as it is printed.
+pub fn counted(words: u32) -> String {
+    match words {
+        1 => "1 word".to_string(),
+        _ => format!("{words} words"),
+    }
+}
+
+#[cfg(test)]
+mod tests {
+    use super::*;
+
+    #[test]
+    fn what_is_given_and_found_is_printed_as_the_manual_writes_it() {
+        let line = |kind, value, number, words, answer| {
+            Answered { event: Event { kind, value }, reply: Reply { number, words, value: answer } }.to_string()
+        };
+        assert_eq!(line(0, 3, 0, 3, 0), "run 3: 0 done, 3 words");
+        assert_eq!(line(0, 1, 0, 1, 0), "run 1: 0 done, 1 word");
+        assert_eq!(line(0, 5, 6, 2, 0), "run 5: 6 SRC none where the bus is used, 2 words");
+        assert_eq!(line(1, 0, 0, 0, 0x34), "read: 0 done, value 34H");
+        assert_eq!(line(2, 5, 0, 0, 0), "write 05H: 0 done");
+        assert_eq!(line(2, 256, 3, 0, 0), "write 100H: 3 event kind over 7, or value not allowed");
+        assert_eq!(line(3, 0, 0, 0, 0x80), "status: 0 done, value 80H");
+        assert_eq!(line(4, 0x2000, 0, 0, 0), "in 2000H: 0 done");
+        assert_eq!(line(5, 0, 0, 0, 0x1000), "out: 0 done, value 1000H");
+        assert_eq!(line(6, 0, 0, 0, 0), "interrupt: 0 done");
+        assert_eq!(line(7, 4, 3, 0, 0), "event 7 4: 3 event kind over 7, or value not allowed");
+        assert_eq!(line(9, 0, 3, 0, 0), "event 9 0: 3 event kind over 7, or value not allowed");
+    }
+
+    #[test]
+    fn an_event_is_found_by_its_name() {
+        assert_eq!(Event::named("run"), Some((0, true)));
+        assert_eq!(Event::named("OUT"), Some((5, false)));
+        assert_eq!(Event::named("dance"), None);
+    }
+}

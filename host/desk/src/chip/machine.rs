@@ -1,0 +1,121 @@
+//! The machine that a script prepares and its events change: the proved core, with the images and the RAM that are lent to it.
+
+use bemulatsho::{event, fresh_registers, take_apart, Registers, Reply, Word};
+
+/// Which of the lent lists a statement fills.
+#[derive(Clone, Copy, Debug, PartialEq, Eq, Hash)]
+pub enum Memory {
+    Program,
+    Rom,
+    Ram,
+}
+
+impl Memory {
+    pub const ALL: [Memory; 3] = [Memory::Program, Memory::Rom, Memory::Ram];
+
+    pub fn name(self) -> &'static str {
+        match self {
+            Memory::Program => "program",
+            Memory::Rom => "rom",
+            Memory::Ram => "ram",
+        }
+    }
+
+    pub fn length(self) -> usize {
+        match self {
+            Memory::Program => bemulatsho::WORDS,
+            Memory::Rom => bemulatsho::CELLS,
+            Memory::Ram => bemulatsho::RAM,
+        }
+    }
+
+    /// What its list can hold; whether a word or cell fits the chip is for a refusal to say.
+    pub fn largest(self) -> u32 {
+        match self {
+            Memory::Program => u32::MAX,
+            Memory::Rom | Memory::Ram => 0xffff,
+        }
+    }
+}
+
+#[derive(Clone)]
+pub struct Machine {
+    pub registers: Registers,
+    pub program: Vec<u32>,
+    pub rom: Vec<u16>,
+    pub ram: [u16; bemulatsho::RAM],
+}
+
+/// What events change of a machine, to go back to.
+#[derive(Clone, Copy)]
+pub struct Kept {
+    registers: Registers,
+    ram: [u16; bemulatsho::RAM],
+}
+
+impl Machine {
+    /// A machine that has run nothing, with empty images and RAM.
+    pub fn new() -> Machine {
+        Machine {
+            registers: fresh_registers(),
+            program: vec![0; bemulatsho::WORDS],
+            rom: vec![0; bemulatsho::CELLS],
+            ram: [0; bemulatsho::RAM],
+        }
+    }
+
+    /// Puts numbers into an image or the RAM, from a place on; a script's reader has seen that they fit.
+    pub fn fill(&mut self, memory: Memory, from: usize, values: &[u32]) {
+        for (place, value) in (from..).zip(values) {
+            match memory {
+                Memory::Program => put(&mut self.program, place, *value),
+                Memory::Rom => put(&mut self.rom, place, *value as u16),
+                Memory::Ram => put(&mut self.ram, place, *value as u16),
+            }
+        }
+    }
+
+    #[inline]
+    pub fn event(&mut self, kind: u32, value: u32) -> Reply {
+        event(&mut self.registers, &self.program, &self.rom, &mut self.ram, kind, value)
+    }
+
+    /// The word at PC, which the next run begins with.
+    pub fn word_at_pc(&self) -> u32 {
+        self.program.get(usize::from(self.registers.pc)).copied().unwrap_or(0)
+    }
+
+    #[inline]
+    pub fn kept(&self) -> Kept {
+        Kept { registers: self.registers, ram: self.ram }
+    }
+
+    pub fn go_back(&mut self, kept: &Kept) {
+        self.registers = kept.registers;
+        self.ram = kept.ram;
+    }
+}
+
+fn put<T>(list: &mut [T], place: usize, value: T) {
+    if let Some(cell) = list.get_mut(place) {
+        *cell = value;
+    }
+}
+
+impl Default for Machine {
+    fn default() -> Machine {
+        Machine::new()
+    }
+}
+
+/// Whether a word has SOL or SOM as its destination: it stores SO and sets SORQ.
+pub fn stores_so(word: u32) -> bool {
+    const SOL: u8 = 8;
+    const SOM: u8 = 9;
+    let destination = match take_apart(word) {
+        Ok(Word::Op(fields) | Word::Rt(fields)) => fields.dst,
+        Ok(Word::Ldi(fields)) => fields.dst,
+        Ok(Word::Jp(_)) | Err(_) => return false,
+    };
+    matches!(destination, SOL | SOM)
+}

@@ -1,0 +1,8 @@
+//! The chip on the bench: the proved core with what is lent to it, its registers, words and events by name, and its state in print.
+
+pub mod event;
+pub mod machine;
+pub mod mnemonics;
+pub mod registers;
+pub mod state;
+pub mod traced;

@@ -1,0 +1,71 @@
+//! The words behind a command: options begin with `-`, a lone `-` is a file, and behind `--` everything is.
+
+use crate::fault::Fault;
+
+pub struct Arguments<'a> {
+    /// How the command is used, for messages.
+    usage: &'a str,
+    rest: std::iter::Peekable<std::slice::Iter<'a, String>>,
+    only_files: bool,
+}
+
+pub enum Argument<'a> {
+    Option(&'a str),
+    File(&'a str),
+}
+
+impl<'a> Arguments<'a> {
+    pub fn new(usage: &'a str, arguments: &'a [String]) -> Arguments<'a> {
+        Arguments { usage, rest: arguments.iter().peekable(), only_files: false }
+    }
+
+    /// What belongs to an option: the next word.
+    pub fn value(&mut self, option: &str, expected: &str) -> Result<&'a str, Fault> {
+        match self.rest.next_if(|word| word.as_str() == "-" || !word.starts_with('-')) {
+            Some(word) => Ok(word),
+            None => Err(self.bad(&format!("{option}: expected {expected}"))),
+        }
+    }
+
+    /// The files behind an option, up to the next option.
+    pub fn files(&mut self) -> Vec<&'a str> {
+        let mut files = Vec::new();
+        while let Some(word) = self.rest.next_if(|word| self.only_files || word.as_str() == "-" || !word.starts_with('-')) {
+            files.push(word.as_str());
+        }
+        files
+    }
+
+    fn is_file(&self, word: &str) -> bool {
+        self.only_files || word == "-" || !word.starts_with('-')
+    }
+
+    /// Puts what belongs to an option into its place, which must be empty so far.
+    pub fn once<T>(&self, place: &mut Option<T>, option: &str, value: T) -> Result<(), Fault> {
+        match place.replace(value) {
+            None => Ok(()),
+            Some(_) => Err(self.bad(&format!("{option} a second time"))),
+        }
+    }
+
+    pub fn unknown(&self, option: &str) -> Fault {
+        self.bad(&format!("{option:?} is no option"))
+    }
+
+    pub fn bad(&self, message: &str) -> Fault {
+        Fault::bad(format!("{message}: {}", self.usage))
+    }
+}
+
+impl<'a> Iterator for Arguments<'a> {
+    type Item = Argument<'a>;
+
+    fn next(&mut self) -> Option<Argument<'a>> {
+        let word = self.rest.next()?;
+        if word == "--" && !self.only_files {
+            self.only_files = true;
+            return self.next();
+        }
+        Some(if self.is_file(word) { Argument::File(word) } else { Argument::Option(word) })
+    }
+}

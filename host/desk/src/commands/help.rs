@@ -1,0 +1,198 @@
+//! `desk help` and `desk help COMMAND`.
+
+use crate::fault::Fault;
+use crate::output::Output;
+use crate::scripts::nearest::nearest;
+
+const OVERVIEW: &str = "\
+desk: the uPD7720A / 77P20 in software, for the bench
+
+  desk run SCRIPT             play a script and check what it expects
+  desk trace SCRIPT           print each word as it finishes, and what changed
+  desk check-track ..         was what the desk sent what the chip would have sent?
+  desk mix SCRIPT.. --in WAV.. --out WAV
+                              mix sound files by a program
+  desk convert RECORD OTHER   a record from text into the compact form, or back
+  desk example FOLDER         mix three tones and check the track
+  desk help COMMAND           more about a command; also desk COMMAND --help
+  desk --version              the release, and the version of the library's interface
+
+Behind `--` every word is a file's name.
+Exit status: 0 done, 1 a script or check failed, 2 bad use or bad input.
+
+Example:
+  $ desk run examples/bench/case-10.desk
+";
+
+const RUN: &str = "\
+desk run [--quiet | --json] SCRIPT
+
+Plays a script on the proved core; `-` reads it from standard input. Each event prints its reply: the number
+with its meaning, the words done, the value. The first expectation that does not hold ends the run with
+status 1, and so does an event that is refused where no `reply` behind it expects that. A record is a script
+too, in text or in the compact form.
+
+  --quiet   print failures only
+  --json    print one object a reply
+
+Statements, one a line, in small letters or capitals; # begins a comment; 1234H is hexadecimal, 1234 decimal;
+a name with spaces stands in \"quotes\":
+
+  program ADDRESS: WORD ..          instruction words from an address on; each address is given once
+  rom ADDRESS: CELL ..              data ROM cells
+  ram ADDRESS: WORD ..              RAM cells
+  patch program | rom | ram ..      the same, over what was given before
+  set REGISTER VALUE                PC STACK0 .. STACK3 DEPTH A B K L TR DR SI SO DP RP SR SIACK SOACK SORQ,
+                                    and the flags SA1 SA0 CA ZA OVA1 OVA0 SB1 SB0 CB ZB OVB1 OVB0
+  run WORDS | in WORD | out | read | write BYTE | status | interrupt | reset
+  event KIND VALUE                  an event by its number, 0 to 7
+  reply NUMBER [words N] [value V]  what the event before was to be answered
+  expect REGISTER VALUE             what a register holds now
+  expect ram ADDRESS VALUE          what a RAM cell holds now
+  sent WORD                         what was sent at the `out` before
+  show                              registers, flags by name, RAM with what changed marked
+  include FILE                      the statements of another script, beside this one
+  rate HERTZ                        of a record: samples a second
+  sources NAME ..                   of a record: what the words in of each sample are
+  samples NUMBER                    the end of a record: how many words were sent; nothing follows
+
+Example:
+  $ desk run examples/bench/case-04.desk
+";
+
+const TRACE: &str = "\
+desk trace [--from N] [--count N] SCRIPT
+
+Plays and judges a script as `desk run` does, word by word, and prints each word as it finishes: its address,
+the word, its fields in the manual's mnemonics, and only what changed. This is how a wrong channel map is found.
+
+  --from N    print nothing of the first N words
+  --count N   print N words; what comes behind them is played and judged all the same
+
+N may be hexadecimal, as 14H; a script of - is standard input.
+
+Example:
+  $ desk trace --count 3 examples/bench/case-10.desk
+";
+
+const CHECK_TRACK: &str = "\
+desk check-track RECORD..
+desk check-track --program SCRIPT.. --in WAV.. --sent WAV
+desk check-track --tracks LIST
+
+Gives the proved core what the desk was given and holds every word that the desk sent against what the chip
+would have sent. A record has the events; with sound files the sources go through the program as in `desk mix`.
+A list has a line a track, paths relative to it:
+
+  track English record english.record
+  track \"Channel 2\" program mixing.desk preset.desk in booth.wav floor.wav relay.wav sent channel-2.wav
+
+  --report FILE.html   a page for the coordinator: which track is wrong, since when, which source is on it
+  --start HH:MM:SS     the time of day of the first sample
+
+One line a track, and a last line that counts them:
+  agrees       the whole of it was there, and is what the chip sends
+  differs      a word is not what the chip sends, an expectation does not hold, or an event was refused
+  incomplete   the record is cut, a `sent` is missing, or it is shorter than the others of the call
+  unreadable   a file is damaged, altered or missing
+Status 0 if all agree, 2 if one is unreadable, else 1.
+
+A record is a script with the program, the data and the preset (or `include` lines that bring them), then the
+events in order, after each `out` the word that was sent, and at the end the number of samples:
+
+  include channels.desk
+  include preset.desk
+  rate 48000
+  in 1234H
+  run 20
+  out
+  sent 0923H
+  samples 1
+
+Example:
+  $ desk check-track examples/trial/good.record
+";
+
+const MIX: &str = "\
+desk mix SCRIPT.. --in WAV.. --out WAV [--record FILE]
+
+Runs one sample of each source through the serial port for every sample of the track: each goes in, the program
+runs until it has taken it, and after the last until it sends. The scripts bring the program, the data and the
+preset; events in them are played once, at the start. One to sixteen sound files, 16-bit mono PCM WAV, all at
+one rate; the shorter ones end in silence. The track is written whole or not at all, and never over a file that
+is read. A sound of `-` is standard input or output.
+
+  --record FILE   write the record of the mix too, in the compact form
+
+Example, in the folder that `desk example` makes:
+  $ desk mix mixing.desk preset.desk --in booth.wav floor.wav relay.wav --out again.wav
+";
+
+const CONVERT: &str = "\
+desk convert RECORD OTHER
+
+Writes a record in its other form: a text becomes a compact record, a compact record a text. No statement is
+lost; what a text includes stands in it afterwards, comments do not. `-` is standard input or output. A compact
+record notices when it is cut or altered: docs/RECORDS.md describes it.
+
+Example, in the folder that `desk example` makes:
+  $ desk convert track.record -
+";
+
+const EXAMPLE: &str = "\
+desk example FOLDER
+
+Writes three tones (booth.wav, floor.wav, relay.wav) and the mixing program into a folder, mixes them to
+track.wav and track.record, checks every sample against exact arithmetic, and prints the level of each source in
+the mix. Files of these names are replaced.
+
+Example:
+  $ desk example sound
+";
+
+const HELP: &str = "\
+desk help [COMMAND]
+
+Tells what desk does, or more about one command.
+
+Example:
+  $ desk help run
+";
+
+/// The commands and their texts, the overview first.
+pub const TEXTS: [(&str, &str); 8] = [
+    ("", OVERVIEW),
+    ("run", RUN),
+    ("trace", TRACE),
+    ("check-track", CHECK_TRACK),
+    ("mix", MIX),
+    ("convert", CONVERT),
+    ("example", EXAMPLE),
+    ("help", HELP),
+];
+
+pub fn is_command(name: &str) -> bool {
+    TEXTS.iter().any(|(command, _)| *command == name)
+}
+
+/// No such command; the nearest is named.
+pub fn no_command(name: &str) -> Fault {
+    let commands = TEXTS.iter().map(|(command, _)| *command).filter(|command| !command.is_empty());
+    match nearest(name, commands) {
+        Some(meant) => Fault::bad(format!("{name:?} is no command, perhaps {meant:?}: see `desk help`")),
+        None => Fault::bad(format!("{name:?} is no command: see `desk help`")),
+    }
+}
+
+pub fn command(arguments: &[String]) -> Result<(), Fault> {
+    let name = match arguments {
+        [] => "",
+        [name] => name.as_str(),
+        _ => return Err(Fault::bad("help takes one command: see `desk help`")),
+    };
+    let text = TEXTS.iter().find(|(command, _)| *command == name);
+    let (_, text) = text.ok_or_else(|| no_command(name))?;
+    let mut output = Output::new();
+    output.print(text)?;
+    output.flush()
+}

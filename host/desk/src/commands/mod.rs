@@ -1,0 +1,12 @@
+//! The commands, one file each, and how their arguments are read.
+
+pub mod arguments;
+pub mod check_track;
+pub mod convert;
+pub mod example;
+pub mod help;
+pub mod mix;
+pub mod run;
+pub mod script;
+pub mod trace;
+pub mod version;

@@ -1,0 +1,113 @@
+//! `desk run`: plays a script on one machine, prints each reply and holds every expectation against what is found.
+
+use crate::chip::event::{meaning, Answered};
+use crate::chip::state::{show, State};
+use crate::commands::arguments::{Argument, Arguments};
+use crate::commands::script::{self, Statements};
+use crate::fault::{Fault, Place, Spot};
+use crate::output::Output;
+use crate::scripts::player::{Played, Player};
+use crate::scripts::statement::Action;
+use bemulatsho::Reply;
+
+const USE: &str = "expected `desk run [--quiet | --json] SCRIPT`, where - is standard input";
+
+#[derive(Clone, Copy, Debug, PartialEq, Eq)]
+enum Print {
+    Lines,
+    Nothing,
+    Json,
+}
+
+pub fn command(arguments: &[String]) -> Result<(), Fault> {
+    let (script, print) = asked(arguments)?;
+    let statements = script::checked(script, |_| {})?;
+    let mut output = Output::new();
+    let played = play(statements, print, &mut output);
+    let printed = output.flush();
+    played.and(printed)
+}
+
+/// The script's name and how to print.
+fn asked(arguments: &[String]) -> Result<(&str, Print), Fault> {
+    let (mut script, mut quiet, mut json) = (None, false, false);
+    let mut arguments = Arguments::new(USE, arguments);
+    while let Some(argument) = arguments.next() {
+        match argument {
+            Argument::Option("--quiet") => quiet = true,
+            Argument::Option("--json") => json = true,
+            Argument::Option(option) => return Err(arguments.unknown(option)),
+            Argument::File(second) if script.is_some() => return Err(arguments.bad(&format!("{second:?} is a second script"))),
+            Argument::File(first) => script = Some(first),
+        }
+    }
+    let print = match (quiet, json) {
+        (true, true) => return Err(arguments.bad("--quiet and --json together")),
+        (true, false) => Print::Nothing,
+        (false, true) => Print::Json,
+        (false, false) => Print::Lines,
+    };
+    Ok((script.ok_or_else(|| arguments.bad("no script"))?, print))
+}
+
+fn play(statements: Statements, print: Print, output: &mut Output) -> Result<(), Fault> {
+    let mut player = Player::new();
+    let mut shown = State::of(&player.machine);
+    for statement in statements {
+        let statement = statement?;
+        if let Played::Answered(answered) = player.play(&statement)? {
+            match print {
+                Print::Lines => output.line(&answered.to_string())?,
+                Print::Json => output.line(&json(&answered, statement.place))?,
+                Print::Nothing => {}
+            }
+        }
+        if statement.action == Action::Show && print == Print::Lines {
+            let now = State::of(&player.machine);
+            output.print(&show(&now, &shown))?;
+            shown = now;
+        }
+    }
+    player.settle(None)
+}
+
+fn json(answered: &Answered, place: Place) -> String {
+    let Reply { number, words, value } = answered.reply;
+    let (at, count) = match place.spot {
+        Spot::Line { line, .. } => ("line", line),
+        Spot::Statement(number) => ("statement", number),
+    };
+    format!(
+        "{{\"file\":{},\"{at}\":{count},\"event\":{},\"kind\":{},\"given\":{},\
+         \"number\":{number},\"meaning\":{},\"words\":{words},\"value\":{value}}}",
+        quoted(&place.file.display().to_string()),
+        quoted(&answered.event.name().map_or_else(|| format!("event {}", answered.event.kind), str::to_string)),
+        answered.event.kind,
+        answered.event.value,
+        quoted(meaning(number)),
+    )
+}
+
+/// A JSON string.
+fn quoted(text: &str) -> String {
+    let mut quoted = String::from('"');
+    for character in text.chars() {
+        match character {
+            '"' | '\\' => quoted.extend(['\\', character]),
+            control if control < ' ' => quoted.push_str(&format!("\\u{:04x}", u32::from(control))),
+            other => quoted.push(other),
+        }
+    }
+    quoted.push('"');
+    quoted
+}
+
+#[cfg(test)]
+mod tests {
+    use super::*;
+
+    #[test]
+    fn strings_are_escaped() {
+        assert_eq!(quoted("a\"b\\c\n\u{1}é"), "\"a\\\"b\\\\c\\u000a\\u0001é\"");
+    }
+}

@@ -1,0 +1,141 @@
+//! One statement from the words of its line.
+
+use crate::chip::event::Event;
+use crate::chip::machine::Memory;
+use crate::chip::registers::{named, Register, REGISTERS};
+use crate::fault::Fault;
+use crate::numbers;
+use crate::scripts::nearest::nearest;
+use crate::scripts::statement::{Action, Fill, NAMES};
+use crate::scripts::words::{Token, Words};
+
+/// The statement that begins with this word; its line ends behind it.
+pub fn statement(first: &Token, words: &mut Words) -> Result<Action, Fault> {
+    let action = action(first, words)?;
+    words.end()?;
+    Ok(action)
+}
+
+fn action(first: &Token, words: &mut Words) -> Result<Action, Fault> {
+    if let Some(memory) = memory(first) {
+        return fill(memory, false, words);
+    }
+    if let (Some((kind, has_value)), false) = (Event::named(&first.text), first.quoted) {
+        let value = if has_value { words.number("a value")? } else { 0 };
+        return Ok(Action::Event(Event { kind, value }));
+    }
+    match first {
+        _ if first.is("patch") => {
+            let name = words.expect("program, rom or ram")?;
+            let memory = memory(&name).ok_or_else(|| name.wrong("program, rom or ram"))?;
+            fill(memory, true, words)
+        }
+        _ if first.is("set") => register_and_value(words).map(|(register, value)| Action::Set { register, value }),
+        _ if first.is("event") => Ok(Action::Event(Event { kind: words.number("the kind of an event")?, value: words.number("a value")? })),
+        _ if first.is("reply") => reply(words),
+        _ if first.is("sent") => Ok(Action::Sent { word: words.up_to(0xffff, "the word that was sent")? as u16 }),
+        _ if first.is("expect") => expect(words),
+        _ if first.is("show") => Ok(Action::Show),
+        _ if first.is("rate") => rate(words),
+        _ if first.is("sources") => sources(words),
+        _ if first.is("samples") => samples(words),
+        _ => Err(first.wrong(&statement_meant(&first.text))),
+    }
+}
+
+/// The nearest name, or all of them.
+fn statement_meant(text: &str) -> String {
+    match nearest(text, NAMES) {
+        Some(name) => format!("a statement, perhaps {name:?}"),
+        None => format!("a statement: {}", NAMES.join(", ")),
+    }
+}
+
+fn memory(token: &Token) -> Option<Memory> {
+    Memory::ALL.into_iter().find(|memory| token.is(memory.name()))
+}
+
+fn fill(memory: Memory, patch: bool, words: &mut Words) -> Result<Action, Fault> {
+    const ADDRESS: &str = "an address and a colon, as 01FH:";
+    let address = words.expect(ADDRESS)?;
+    let digits = address.text.strip_suffix(':').ok_or_else(|| address.wrong(ADDRESS))?;
+    let from = numbers::parse(digits).ok_or_else(|| address.wrong(ADDRESS))? as usize;
+    if from >= memory.length() {
+        return Err(address.wrong(&format!("an address below {:X}H", memory.length())));
+    }
+    let mut values = Vec::new();
+    for token in words.by_ref() {
+        let value = numbers::parse(&token.text).filter(|value| *value <= memory.largest());
+        let value = value.ok_or_else(|| token.wrong(&format!("a number up to {:X}H ({})", memory.largest(), numbers::WRITTEN)))?;
+        if from + values.len() >= memory.length() {
+            return Err(token.wrong(&format!("nothing: {} has {} places", memory.name(), memory.length())));
+        }
+        values.push(value);
+    }
+    if values.is_empty() {
+        words.expect("a number")?;
+    }
+    Ok(Action::Fill(Fill { memory, from, values, patch }))
+}
+
+fn register_and_value(words: &mut Words) -> Result<(&'static Register, u16), Fault> {
+    let name = words.expect("the name of a register")?;
+    let register = named(&name.text).ok_or_else(|| name.wrong(&register_meant(&name.text)))?;
+    let value = words.up_to(u32::from(register.largest), "a value")?;
+    Ok((register, value as u16))
+}
+
+fn register_meant(text: &str) -> String {
+    let names = || REGISTERS.iter().map(|register| register.name);
+    match nearest(text, names()) {
+        Some(name) => format!("the name of a register, perhaps {name:?}"),
+        None => format!("the name of a register: {}", names().collect::<Vec<&str>>().join(", ")),
+    }
+}
+
+fn reply(words: &mut Words) -> Result<Action, Fault> {
+    let number = words.number("the number of a reply")?;
+    let (mut done, mut value) = (None, None);
+    while let Some(token) = words.next() {
+        let place = match () {
+            () if token.is("words") && done.is_none() => &mut done,
+            () if token.is("value") && value.is_none() => &mut value,
+            () => return Err(token.wrong("`words` or `value`, each once")),
+        };
+        *place = Some(words.number("a number")?);
+    }
+    Ok(Action::Reply { number, words: done, value })
+}
+
+fn expect(words: &mut Words) -> Result<Action, Fault> {
+    if words.peek().is_some_and(|token| token.is("ram")) {
+        words.next();
+        let cell = words.up_to(bemulatsho::RAM as u32 - 1, "a RAM address")? as usize;
+        return Ok(Action::ExpectRam { cell, value: words.up_to(0xffff, "a value")? as u16 });
+    }
+    let (register, value) = register_and_value(words)?;
+    Ok(Action::Expect { register, value })
+}
+
+fn rate(words: &mut Words) -> Result<Action, Fault> {
+    let token = words.peek().cloned();
+    match (words.number("samples a second")?, token) {
+        (0, Some(token)) => Err(token.wrong("samples a second, at least 1")),
+        (hertz, _) => Ok(Action::Rate { hertz }),
+    }
+}
+
+fn sources(words: &mut Words) -> Result<Action, Fault> {
+    let mut names = vec![words.expect("the names of the sources")?.text];
+    for token in words.by_ref() {
+        names.push(token.text);
+    }
+    Ok(Action::Sources { names })
+}
+
+fn samples(words: &mut Words) -> Result<Action, Fault> {
+    let token = words.expect("how many samples were sent")?;
+    let count = numbers::parse_long(&token.text);
+    let count = count.ok_or_else(|| token.wrong(&format!("how many samples were sent ({})", numbers::WRITTEN)))?;
+    Ok(Action::Samples { count })
+}
