@@ -1,6 +1,6 @@
 //! The machine that a script prepares and its events change: the proved core, with the images and the RAM that are lent to it.
 
-use bemulatsho::{event, fresh_registers, take_apart, Registers, Reply, Word};
+use bemulatsho::{event, fresh_registers, kind, Registers, Reply};
 
 /// Which of the lent lists a statement fills.
 #[derive(Clone, Copy, Debug, PartialEq, Eq, Hash)]
@@ -80,6 +80,12 @@ impl Machine {
         event(&mut self.registers, &self.program, &self.rom, &mut self.ram, kind, value)
     }
 
+    /// Runs words of another program image than its own.
+    #[inline]
+    pub fn run_on(&mut self, program: &[u32], words: u32) -> Reply {
+        event(&mut self.registers, program, &self.rom, &mut self.ram, kind::RUN, words)
+    }
+
     /// The word at PC, which the next run begins with.
     pub fn word_at_pc(&self) -> u32 {
         self.program.get(usize::from(self.registers.pc)).copied().unwrap_or(0)
@@ -106,16 +112,4 @@ impl Default for Machine {
     fn default() -> Machine {
         Machine::new()
     }
-}
-
-/// Whether a word has SOL or SOM as its destination: it stores SO and sets SORQ.
-pub fn stores_so(word: u32) -> bool {
-    const SOL: u8 = 8;
-    const SOM: u8 = 9;
-    let destination = match take_apart(word) {
-        Ok(Word::Op(fields) | Word::Rt(fields)) => fields.dst,
-        Ok(Word::Ldi(fields)) => fields.dst,
-        Ok(Word::Jp(_)) | Err(_) => return false,
-    };
-    matches!(destination, SOL | SOM)
 }

@@ -4,5 +4,6 @@ pub mod event;
 pub mod machine;
 pub mod mnemonics;
 pub mod registers;
+pub mod serial;
 pub mod state;
 pub mod traced;

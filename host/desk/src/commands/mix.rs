@@ -114,12 +114,12 @@ pub fn mix(order: &Order) -> Result<Mixed, Fault> {
         if mixed.samples.is_multiple_of(4096) {
             meter.at(mixed.samples);
         }
-        let sent = mixer.sample(row).map_err(|(leg, stop)| {
+        let sent = mixer.sample(row).map_err(|(leg, halt)| {
             let place = match leg {
                 Leg::Source(at) => order.sources.get(at).map_or_else(String::new, |file| file.display().to_string()),
                 Leg::Sending => "after the last source".to_string(),
             };
-            Fault::failed(format!("sample {}, {place}: {}", mixed.samples, stop.told(&mixer.machine)))
+            Fault::failed(format!("sample {}, {place}: {}", mixed.samples, halt.told(&mixer.machine)))
         })?;
         track.write(sent)?;
         if let Some(record) = &mut record {

@@ -68,7 +68,7 @@ fn play(statements: Statements, print: Print, output: &mut Output) -> Result<(),
             shown = now;
         }
     }
-    player.settle(None)
+    player.settle()
 }
 
 fn json(answered: &Answered, place: Place) -> String {

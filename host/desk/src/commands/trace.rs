@@ -78,7 +78,7 @@ impl<'a> Trace<'a> {
     fn play(&mut self, statements: Statements) -> Result<(), Fault> {
         for statement in statements {
             let statement = statement?;
-            self.player.settle(Some(&statement.action))?;
+            self.player.settle_before(&statement.action)?;
             match statement.action {
                 // A count that is not allowed is the core's to refuse, and no words run.
                 Action::Event(event @ Event { kind: kind::RUN, value: 1..=0xffff }) => self.run(statement.place, event)?,
@@ -88,7 +88,7 @@ impl<'a> Trace<'a> {
                 }
             }
         }
-        self.player.settle(None)
+        self.player.settle()
     }
 
     /// A run, word by word where they are printed: so many words and then the rest are the same as all at once.

@@ -15,7 +15,7 @@ mod writer;
 #[cfg(test)]
 mod tests;
 
-use crate::fault::Fault;
+use crate::fault::{Fault, Place};
 use crate::files::is_standard;
 use crate::scripts;
 use crate::scripts::statement::Statement;
@@ -23,6 +23,7 @@ use compact::Stop;
 use std::fs::File;
 use std::io::{self, BufRead, BufReader, ErrorKind};
 use std::path::{Path, PathBuf};
+pub use turns::Common;
 
 #[derive(Clone, Copy, Debug, PartialEq, Eq)]
 pub enum Form {
@@ -80,7 +81,6 @@ impl Record {
 
     /// The next statement; none at the end of a record that is whole. After a stop there is the same stop again, and never an end.
     #[allow(clippy::should_implement_trait, reason = "an iterator's end could be taken for a record's")]
-    #[inline]
     pub fn next(&mut self) -> Result<Option<Statement>, Stop> {
         match &mut self.statements {
             Statements::Compact(reader) => reader.next(),
@@ -89,6 +89,15 @@ impl Record {
                 *failed = Some(fault.clone());
                 Stop::Bad(fault)
             }),
+        }
+    }
+
+    /// The next statement, if it is at hand and an event or a word sent; else it is for `next`.
+    #[inline(always)]
+    pub fn common(&mut self) -> Option<(Place, Common)> {
+        match &mut self.statements {
+            Statements::Compact(reader) => reader.common(),
+            Statements::Text { .. } => None,
         }
     }
 

@@ -3,7 +3,7 @@
 use super::crc::Crc;
 use super::layout::{header, BLOCK_HEAD, CHECK, END, END_PAYLOAD, HEADER, LONGEST_PAYLOAD, MAGIC, TURNS, VERSION};
 use super::order::Order;
-use super::turns::{Filled, Turns};
+use super::turns::{Common, Turns};
 use crate::fault::{self, Fault, Place, Spot};
 use crate::scripts::statement::{Action, Statement};
 use std::io::Read;
@@ -63,18 +63,28 @@ impl<R: Read> Reader<R> {
 
     /// The next statement; none at the end of a record that is whole. After a stop there is the same stop again, and never an end.
     #[allow(clippy::should_implement_trait, reason = "an iterator's end could be taken for a record's")]
-    #[inline]
     pub fn next(&mut self) -> Result<Option<Statement>, Stop> {
         loop {
-            let action = match self.turns.next() {
-                Some(Filled::Event(event)) if !self.order.ended() => Action::Event(event),
-                Some(Filled::Sent(word)) if !self.order.ended() => Action::Sent { word },
-                Some(other) => return self.looked_at(other).map(Some),
-                None if self.more()? => continue,
-                None => return Ok(None),
-            };
-            return Ok(Some(Statement { place: self.next_place(), action }));
+            if let Some((place, common)) = self.common() {
+                return Ok(Some(Statement { place, action: common.into() }));
+            }
+            if let Some(action) = self.turns.next() {
+                return self.looked_at(action).map(Some);
+            }
+            if !self.more()? {
+                return Ok(None);
+            }
         }
+    }
+
+    /// The next statement, if it is at hand and an event or a word sent; else it is for `next`.
+    #[inline(always)]
+    pub fn common(&mut self) -> Option<(Place, Common)> {
+        if self.order.ended() {
+            return None;
+        }
+        let common = self.turns.common()?;
+        Some((self.next_place(), common))
     }
 
     #[inline]
@@ -84,13 +94,7 @@ impl<R: Read> Reader<R> {
     }
 
     /// A statement that depends on those before it: any but an event or a word sent, and any behind the end.
-    #[inline(never)]
-    fn looked_at(&mut self, filled: Filled) -> Result<Statement, Stop> {
-        let action = match filled {
-            Filled::Event(event) => Action::Event(event),
-            Filled::Sent(word) => Action::Sent { word },
-            Filled::Other(place) => self.turns.other(place),
-        };
+    fn looked_at(&mut self, action: Action) -> Result<Statement, Stop> {
         let place = self.next_place();
         match self.order.see(&action, place) {
             Ok(()) => Ok(Statement { place, action }),
@@ -141,9 +145,7 @@ impl<R: Read> Reader<R> {
         self.possible(begin, tag, length)?;
         let check = self.read_payload(&head, length)?;
         if check != self.crc.value() {
-            let expected = self.crc.value();
-            let message =
-                format!("a block of {length} bytes with the check {check:016X}H: expected {expected:016X}H; the record was altered");
+            let message = format!("a block of {length} bytes: expected the check that stands behind it; the record was altered");
             return Err(self.bad(begin, message));
         }
         match tag {

@@ -264,7 +264,7 @@ fn what_was_altered_is_told() {
     assert_eq!(changed(12, b'X'), "x: at byte 12: a block of tag 58H: expected 54H or 45H");
     assert_eq!(changed(16, 0xff).replace(char::is_numeric, ""), "x: at byte : a block of  bytes: expected at most ");
     assert!(changed(20, 0xff).starts_with("x: at byte 12: a block of "));
-    assert!(changed(20, 0xff).ends_with("H; the record was altered"));
+    assert!(changed(20, 0xff).ends_with("; the record was altered"));
 }
 
 #[test]

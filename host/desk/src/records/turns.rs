@@ -8,12 +8,20 @@ use crate::chip::event::Event;
 use crate::scripts::statement::Action;
 use bemulatsho::kind;
 
-/// A statement as it is handed out.
-pub enum Filled {
+/// What nearly all statements of a record are.
+#[derive(Clone, Copy, Debug, PartialEq, Eq)]
+pub enum Common {
     Event(Event),
     Sent(u16),
-    /// Another statement, by its place among them.
-    Other(usize),
+}
+
+impl From<Common> for Action {
+    fn from(common: Common) -> Action {
+        match common {
+            Common::Event(event) => Action::Event(event),
+            Common::Sent(word) => Action::Sent { word },
+        }
+    }
 }
 
 #[derive(Default)]
@@ -57,27 +65,40 @@ impl Turns {
     }
 
     /// The next statement; none when the block has ended.
+    pub fn next(&mut self) -> Option<Action> {
+        self.common().map(Action::from).or_else(|| self.other())
+    }
+
+    /// The next statement, if it is an event or a word sent.
+    #[inline(always)]
+    pub fn common(&mut self) -> Option<Common> {
+        let common = match self.step()? {
+            Step::In => Common::Event(Event { kind: kind::SERIAL_IN, value: u32::from(self.word()) }),
+            Step::Sent => Common::Sent(self.word()),
+            Step::Event(event) => Common::Event(event),
+            Step::Other(_) => return None,
+        };
+        self.step += 1;
+        Some(common)
+    }
+
+    /// The next statement, if it is another.
+    fn other(&mut self) -> Option<Action> {
+        let Step::Other(place) = self.step()? else { return None };
+        self.step += 1;
+        Some(self.patterns.others[place as usize].clone())
+    }
+
+    /// The step that comes next.
     #[inline]
-    pub fn next(&mut self) -> Option<Filled> {
+    fn step(&mut self) -> Option<Step> {
         if self.step == self.last {
             let index = *self.indexes.get(self.turn)?;
             let pattern = self.patterns.list[usize::from(index)];
             self.turn += 1;
             (self.step, self.last) = (pattern.from as usize, pattern.to as usize);
         }
-        let step = self.patterns.steps[self.step];
-        self.step += 1;
-        Some(match step {
-            Step::In => Filled::Event(Event { kind: kind::SERIAL_IN, value: u32::from(self.word()) }),
-            Step::Sent => Filled::Sent(self.word()),
-            Step::Event(event) => Filled::Event(event),
-            Step::Other(place) => Filled::Other(place as usize),
-        })
-    }
-
-    /// One of the other statements.
-    pub fn other(&self, place: usize) -> Action {
-        self.patterns.others[place].clone()
+        Some(self.patterns.steps[self.step])
     }
 
     /// The word of the next hole.

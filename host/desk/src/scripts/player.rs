@@ -35,25 +35,29 @@ impl Player {
 
     /// Carries out or judges one statement. A fault of status `Failed` is an expectation that does not hold: the machine can go on.
     pub fn play(&mut self, statement: &Statement) -> Result<Played, Fault> {
-        self.settle(Some(&statement.action))?;
+        self.settle_before(&statement.action)?;
         self.carry_out(statement)
     }
 
-    /// A refusal that the next statement does not expect is a failure; with no next statement, at the end.
-    #[inline]
-    pub fn settle(&mut self, next: Option<&Action>) -> Result<(), Fault> {
-        if self.refused.is_none() {
-            Ok(())
-        } else {
-            self.settle_refused(next)
+    /// A refusal that no `reply` has expected is a failure, unless this statement may stand before that `reply`.
+    pub fn settle_before(&mut self, next: &Action) -> Result<(), Fault> {
+        if may_come_before_reply(next) {
+            return Ok(());
         }
+        self.settle()
+    }
+
+    /// A refusal that no `reply` has expected by now is a failure.
+    #[inline]
+    pub fn settle(&mut self) -> Result<(), Fault> {
+        if self.refused.is_none() {
+            return Ok(());
+        }
+        self.refused_unexpectedly()
     }
 
     #[cold]
-    fn settle_refused(&mut self, next: Option<&Action>) -> Result<(), Fault> {
-        if next.is_some_and(may_come_before_reply) {
-            return Ok(());
-        }
+    fn refused_unexpectedly(&mut self) -> Result<(), Fault> {
         match self.refused.take() {
             Some((place, answered)) => Err(Fault::failed_at(place, unexpected(&answered))),
             None => Ok(()),

@@ -1,8 +1,10 @@
 //! A program that mixes, one sample at a time: a word in for each source, which the program takes, and a word that it sends.
 
 use crate::chip::event::meaning;
-use crate::chip::machine::{stores_so, Machine};
+use crate::chip::machine::Machine;
+use crate::chip::serial::stores_so;
 use crate::numbers;
+use crate::tracks::stops::Stops;
 use bemulatsho::{kind, Registers};
 use std::fmt;
 
@@ -12,31 +14,29 @@ pub const MOST_SOURCES: usize = 16;
 /// A program that has not taken or sent a sample after so many words is not going to.
 const PATIENCE: u32 = 65535;
 
-/// A leg that is a little longer than the guess now and then is finished word by word; one that is much longer is the new guess.
-const A_LITTLE: u32 = 2;
-
 pub struct Mixer {
     pub machine: Machine,
     /// Words that each leg of the last sample took: one for each source until it was taken, and one until the word was sent.
     legs: Vec<u32>,
-    /// Words that a leg is expected to take.
-    guesses: Vec<u32>,
+    /// What each leg runs on.
+    stops: Vec<Stops>,
 }
 
 impl Mixer {
     pub fn new(machine: Machine, sources: usize) -> Mixer {
-        Mixer { machine, legs: vec![0; sources + 1], guesses: vec![0; sources + 1] }
+        let stops = (0..=sources).map(|_| Stops::of(&machine.program)).collect();
+        Mixer { machine, legs: vec![0; sources + 1], stops }
     }
 
     /// One sample of all sources; the word that is sent for it.
     #[inline]
-    pub fn sample(&mut self, inputs: &[i16]) -> Result<i16, (Leg, Stop)> {
+    pub fn sample(&mut self, inputs: &[i16]) -> Result<i16, (Leg, Halt)> {
         for (leg, input) in inputs.iter().enumerate() {
             let taken = self.done(kind::SERIAL_IN, u32::from(*input as u16)).and_then(|_| self.leg(leg, Waiting::Taken));
-            taken.map_err(|stop| (Leg::Source(leg), stop))?;
+            taken.map_err(|halt| (Leg::Source(leg), halt))?;
         }
         let sent = self.leg(inputs.len(), Waiting::Sent).and_then(|()| self.done(kind::SERIAL_OUT, 0));
-        sent.map(|word| word as i16).map_err(|stop| (Leg::Sending, stop))
+        sent.map(|word| word as i16).map_err(|halt| (Leg::Sending, halt))
     }
 
     /// How many words each leg of the last sample took.
@@ -44,54 +44,49 @@ impl Mixer {
         &self.legs
     }
 
-    /// Runs until the program has taken or sent a word, by the fewest words.
+    /// Runs until the program has taken or sent a word, by the fewest words. Only a word that reads SI clears SIACK and only one that stores SO
+    /// sets SORQ: a run ends before each of them, or right behind the one that is let run.
     #[inline]
-    fn leg(&mut self, leg: usize, waiting: Waiting) -> Result<(), Stop> {
-        let mut words = self.most_of_leg(self.guesses[leg], waiting);
+    fn leg(&mut self, leg: usize, waiting: Waiting) -> Result<(), Halt> {
+        let mut words = 0;
         while !waiting.is_over(&self.machine.registers) {
+            words += u32::from(self.machine.run_on(self.stops[leg].image(), PATIENCE - words).words);
+            if waiting.is_over(&self.machine.registers) {
+                break;
+            }
             if words == PATIENCE {
-                return Err(Stop::Waited(waiting));
+                return Err(Halt::Waited(waiting));
             }
-            if self.machine.registers.sorq && stores_so(self.machine.word_at_pc()) {
-                return Err(Stop::Lost);
-            }
-            self.done(kind::RUN, 1)?;
+            self.one_word(leg, waiting)?;
             words += 1;
         }
         self.legs[leg] = words;
-        let guess = &mut self.guesses[leg];
-        if *guess == 0 || words < *guess || words > *guess + A_LITTLE {
-            *guess = words;
+        Ok(())
+    }
+
+    /// Runs the word before which a run ended, as it stands in the program.
+    #[cold]
+    fn one_word(&mut self, leg: usize, waiting: Waiting) -> Result<(), Halt> {
+        let (place, word) = (usize::from(self.machine.registers.pc), self.machine.word_at_pc());
+        if self.machine.registers.sorq && stores_so(word) {
+            return Err(Halt::Lost);
+        }
+        self.done(kind::RUN, 1)?;
+        // A word that also sends is asked each time whether what it sends is lost.
+        if waiting.is_over(&self.machine.registers) && (waiting == Waiting::Sent || !stores_so(word)) {
+            self.stops[leg].expect(&self.machine.program, place);
         }
         Ok(())
     }
 
-    /// All words but the last of as many as the leg is expected to take, at once. Within a run SIACK only falls and SORQ only rises: if it is
-    /// not over after them, and nothing is sent, then it was so after each of them. Else the machine goes back and no word is done.
-    #[inline]
-    fn most_of_leg(&mut self, guess: u32, waiting: Waiting) -> u32 {
-        let before = &self.machine.registers;
-        if guess < 2 || waiting.is_over(before) || before.sorq {
-            return 0;
-        }
-        let kept = self.machine.kept();
-        let reply = self.machine.event(kind::RUN, guess - 1);
-        let after = &self.machine.registers;
-        if reply.number == 0 && !waiting.is_over(after) && !after.sorq {
-            return guess - 1;
-        }
-        self.machine.go_back(&kept);
-        0
-    }
-
     /// An event's value, if it was not refused.
     #[inline]
-    fn done(&mut self, kind: u32, value: u32) -> Result<u16, Stop> {
+    fn done(&mut self, kind: u32, value: u32) -> Result<u16, Halt> {
         let reply = self.machine.event(kind, value);
         if reply.number == 0 {
             Ok(reply.value)
         } else {
-            Err(Stop::Refused(reply.number))
+            Err(Halt::Refused(reply.number))
         }
     }
 }
@@ -130,20 +125,125 @@ impl fmt::Display for Waiting {
 
 /// Why a mix does not go on.
 #[derive(Clone, Copy, Debug, PartialEq, Eq)]
-pub enum Stop {
+pub enum Halt {
     Refused(u8),
     Waited(Waiting),
     /// A word that was sent would be lost under the next. A program for fewer sources than are given comes to this.
     Lost,
 }
 
-impl Stop {
+impl Halt {
     pub fn told(&self, machine: &Machine) -> String {
         let pc = numbers::address(machine.registers.pc);
         match self {
-            Stop::Refused(number) => format!("refusal {number} at PC {pc}: {}", meaning(*number)),
-            Stop::Waited(waiting) => format!("the program has not {waiting} a sample within {PATIENCE} words; PC is {pc}"),
-            Stop::Lost => format!("the program sends a second word at PC {pc}: expected one for each sample of all sources"),
+            Halt::Refused(number) => format!("refusal {number} at PC {pc}: {}", meaning(*number)),
+            Halt::Waited(waiting) => format!("the program has not {waiting} a sample within {PATIENCE} words; PC is {pc}"),
+            Halt::Lost => format!("the program sends a second word at PC {pc}: expected one for each sample of all sources"),
         }
+    }
+}
+
+#[cfg(test)]
+mod tests {
+    use super::*;
+    use crate::chip::machine::Memory;
+    use bemulatsho::{build, JpFields, LdiFields, OpFields, Word};
+    use random::Random;
+
+    /// A leg as it is defined: word by word until it is over.
+    fn word_by_word(machine: &mut Machine, waiting: Waiting) -> Result<u32, Halt> {
+        for words in 0..PATIENCE {
+            if waiting.is_over(&machine.registers) {
+                return Ok(words);
+            }
+            if machine.registers.sorq && stores_so(machine.word_at_pc()) {
+                return Err(Halt::Lost);
+            }
+            let reply = machine.event(kind::RUN, 1);
+            if reply.number != 0 {
+                return Err(Halt::Refused(reply.number));
+            }
+        }
+        if waiting.is_over(&machine.registers) {
+            return Ok(PATIENCE);
+        }
+        Err(Halt::Waited(waiting))
+    }
+
+    fn sample_word_by_word(machine: &mut Machine, inputs: &[i16], legs: &mut [u32]) -> Result<i16, (Leg, Halt)> {
+        let given = |machine: &mut Machine, kind, value| match machine.event(kind, value) {
+            reply if reply.number == 0 => Ok(reply.value),
+            reply => Err(Halt::Refused(reply.number)),
+        };
+        for (at, input) in inputs.iter().enumerate() {
+            let taken = given(machine, kind::SERIAL_IN, u32::from(*input as u16)).and_then(|_| word_by_word(machine, Waiting::Taken));
+            legs[at] = taken.map_err(|halt| (Leg::Source(at), halt))?;
+        }
+        let sent = word_by_word(machine, Waiting::Sent).and_then(|words| {
+            legs[inputs.len()] = words;
+            given(machine, kind::SERIAL_OUT, 0)
+        });
+        sent.map(|word| word as i16).map_err(|halt| (Leg::Sending, halt))
+    }
+
+    /// A word of a small program: many take or send a sample or do both at once, some jump, call or return, and a few are refused.
+    fn word(random: &mut Random, length: u32) -> u32 {
+        let (src, dst) = random.pick(&[(11, 1), (12, 3), (11, 15), (1, 8), (3, 9), (15, 9), (11, 9), (1, 3), (3, 1)]);
+        let (psel, alu, asl, dpl) = (random.below(4) as u8, random.below(16) as u8, random.below(2) as u8, random.below(4) as u8);
+        let fields = OpFields { psel, alu, asl, dpl, src, dst, ..OpFields::default() };
+        match random.below(20) {
+            0 => 1 << 23,
+            1 | 2 => built(Word::Rt(fields)),
+            3 => built(Word::Ldi(LdiFields { id: random.word(), dst, ..LdiFields::default() })),
+            4..=9 => jump(random.pick(&[0b100, 0b101, 0b010, 0b010, 0b010]), random.below(32) as u8, random.below(length) as u16),
+            _ => built(Word::Op(fields)),
+        }
+    }
+
+    fn jump(brch: u8, cnd: u8, na: u16) -> u32 {
+        built(Word::Jp(JpFields { brch, cnd, na, ..JpFields::default() }))
+    }
+
+    fn built(word: Word) -> u32 {
+        build(&word).expect("fields that fit")
+    }
+
+    #[test]
+    fn a_mix_is_what_single_words_make() {
+        let mut random = Random::new(4);
+        let mut ended = [0; 4];
+        for _ in 0..2000 {
+            let length = 2 + random.below(14);
+            let mut machine = Machine::new();
+            let mut words: Vec<u32> = (0..length).map(|_| word(&mut random, length)).collect();
+            if random.one_in(3) {
+                words[0] = jump(0b101, 0, length as u16 - 1);
+                words[length as usize - 1] = built(Word::Rt(OpFields { src: 11, dst: 1, ..OpFields::default() }));
+            }
+            machine.fill(Memory::Program, 0, &words);
+            // PC goes round: the last word of the program is before the first.
+            machine.fill(Memory::Program, bemulatsho::WORDS - 1, &words[1..2]);
+            (machine.registers.siack, machine.registers.sorq) = (random.one_in(4), random.one_in(4));
+            machine.registers.pc = random.pick(&[0, bemulatsho::WORDS as u16 - 1]);
+            let sources = 1 + random.place(3);
+            let (mut mixer, mut plain, mut legs) = (Mixer::new(machine.clone(), sources), machine, vec![0; sources + 1]);
+            for _ in 0..20 {
+                let inputs: Vec<i16> = (0..sources).map(|_| random.word() as i16).collect();
+                let expected = sample_word_by_word(&mut plain, &inputs, &mut legs);
+                assert_eq!(mixer.sample(&inputs), expected, "{words:X?}");
+                assert!(mixer.machine.registers == plain.registers && mixer.machine.ram == plain.ram, "{words:X?}");
+                match expected {
+                    Ok(_) => ended[0] += 1,
+                    Err((_, Halt::Refused(_))) => ended[1] += 1,
+                    Err((_, Halt::Waited(_))) => ended[2] += 1,
+                    Err((_, Halt::Lost)) => ended[3] += 1,
+                }
+                if expected.is_err() {
+                    break;
+                }
+                assert_eq!(mixer.legs(), legs, "{words:X?}");
+            }
+        }
+        assert!(ended.iter().all(|count| *count > 50), "every way to end came up: {ended:?}");
     }
 }

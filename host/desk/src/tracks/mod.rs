@@ -10,6 +10,7 @@ pub mod played;
 pub mod prepared;
 pub mod replayed;
 pub mod sitting;
+pub mod stops;
 pub mod stretch;
 pub mod strip;
 pub mod time;

@@ -82,12 +82,12 @@ fn one_sample(findings: &mut Findings, mixer: &mut Mixer, row: &[i16], word: i16
             }
             Ok(true)
         }
-        Err((_, stop)) if findings.samples == 0 => {
-            Err(Fault::bad(format!("the program does not run with these sources: {}", stop.told(&mixer.machine))))
+        Err((_, halt)) if findings.samples == 0 => {
+            Err(Fault::bad(format!("the program does not run with these sources: {}", halt.told(&mixer.machine))))
         }
-        Err((_, stop)) => {
+        Err((_, halt)) => {
             let sample = findings.samples;
-            findings.failed = Some(Fault::failed(format!("sample {sample}: {}", stop.told(&mixer.machine))));
+            findings.failed = Some(Fault::failed(format!("sample {sample}: {}", halt.told(&mixer.machine))));
             findings.missing = Some(format!("the program went no further than {sample} samples"));
             Ok(false)
         }

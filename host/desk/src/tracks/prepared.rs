@@ -34,7 +34,7 @@ pub fn prepared(scripts: &[PathBuf], files: &mut Vec<PathBuf>) -> Result<Prepare
             sent += 1;
         }
     }
-    player.settle(None)?;
+    player.settle()?;
     Ok(Prepared { machine: player.machine, actions, sent })
 }
 

@@ -4,7 +4,7 @@ use crate::chip::event::{Answered, Event};
 use crate::fault::{Fault, Place, Status};
 use crate::progress::Meter;
 use crate::records::compact::Stop;
-use crate::records::{self, Record};
+use crate::records::{self, Common, Record};
 use crate::scripts::player::{Played, Player};
 use crate::scripts::statement::{Action, Statement};
 use crate::tracks::findings::{Chip, Findings};
@@ -56,6 +56,13 @@ impl Replay {
             if count.is_multiple_of(4096) {
                 meter.at(record.bytes());
             }
+            if let Some((place, common)) = record.common() {
+                if let Err(fault) = self.common(place, common) {
+                    self.findings.unreadable = Some(fault);
+                    return;
+                }
+                continue;
+            }
             match record.next() {
                 Ok(Some(statement)) => {
                     if let Err(fault) = self.statement(&statement) {
@@ -79,18 +86,29 @@ impl Replay {
     }
 
     /// Carries out and judges a statement; a fault is one that makes the record unreadable.
-    #[inline]
     fn statement(&mut self, statement: &Statement) -> Result<(), Fault> {
-        let settled = self.player.settle(Some(&statement.action));
-        self.judged(settled)?;
         match &statement.action {
-            Action::Event(event) => {
+            Action::Event(event) => self.common(statement.place, Common::Event(*event)),
+            Action::Sent { word } => self.common(statement.place, Common::Sent(*word)),
+            action => {
+                let settled = self.player.settle_before(action);
+                self.judged(settled)?;
+                self.other(statement, action)
+            }
+        }
+    }
+
+    #[inline(always)]
+    fn common(&mut self, place: Place, common: Common) -> Result<(), Fault> {
+        match common {
+            Common::Event(event) => {
+                let settled = self.player.settle();
+                self.judged(settled)?;
                 self.said();
-                self.event(statement.place, *event);
+                self.event(place, event);
                 Ok(())
             }
-            Action::Sent { word } => self.sent(statement.place, *word),
-            action => self.other(statement, action),
+            Common::Sent(word) => self.sent(place, word),
         }
     }
 
@@ -185,7 +203,7 @@ impl Replay {
             let note = format!("the record sets registers or memory within the track, {} times", self.set_within);
             self.findings.notes.push(note);
         }
-        let settled = self.player.settle(None);
+        let settled = self.player.settle();
         if let Err(fault) = self.judged(settled) {
             self.findings.unreadable = Some(fault);
         }

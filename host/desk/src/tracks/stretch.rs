@@ -9,8 +9,8 @@ use crate::scripts::statement::{Action, Fill};
 use crate::tracks::findings::Stretch;
 use bemulatsho::kind;
 
-/// More statements without any judgement are not kept.
-const MOST_DEEDS: usize = 4096;
+/// More events, or more statements that prepare, are not kept if no judgement stands between them.
+const MOST_KEPT: usize = 4096;
 
 /// More words are not run again one by one.
 const MOST_WORDS: u64 = 20_000;
@@ -21,54 +21,51 @@ const MOST_LINES: usize = 400;
 /// What was done to a machine since the last judgement that held.
 pub struct Since {
     kept: Kept,
-    deeds: Vec<Action>,
+    events: Vec<Event>,
+    /// Statements that prepare the machine, each with the number of events before it.
+    prepared: Vec<(usize, Action)>,
     /// More was done than is kept.
     lost: bool,
 }
 
 impl Since {
     pub fn new(machine: &Machine) -> Since {
-        Since { kept: machine.kept(), deeds: Vec::new(), lost: false }
+        Since { kept: machine.kept(), events: Vec::new(), prepared: Vec::new(), lost: false }
     }
 
     /// What was judged now held.
     #[inline]
     pub fn held(&mut self, machine: &Machine) {
         self.kept = machine.kept();
-        self.deeds.clear();
+        self.events.clear();
+        self.prepared.clear();
         self.lost = false;
     }
 
     #[inline]
     pub fn event(&mut self, event: Event) {
-        self.keep(Action::Event(event));
-    }
-
-    /// A statement that prepares the machine. An image that changes between two runs is not kept in both of its states.
-    pub fn prepared(&mut self, action: &Action) {
-        match action {
-            Action::Fill(Fill { memory: Memory::Program | Memory::Rom, .. }) => self.lost |= !self.deeds.is_empty(),
-            Action::Fill(_) | Action::Set { .. } => self.keep(action.clone()),
-            _ => {}
-        }
-    }
-
-    #[inline]
-    fn keep(&mut self, deed: Action) {
-        if self.deeds.len() < MOST_DEEDS {
-            self.deeds.push(deed);
+        if self.events.len() < MOST_KEPT {
+            self.events.push(event);
         } else {
             self.lost = true;
         }
     }
 
+    /// A statement that prepares the machine. An image that changes between two runs is not kept in both of its states.
+    pub fn prepared(&mut self, action: &Action) {
+        match action {
+            Action::Fill(Fill { memory: Memory::Program | Memory::Rom, .. }) => self.lost |= !self.events.is_empty(),
+            Action::Fill(_) | Action::Set { .. } if self.prepared.len() < MOST_KEPT => {
+                self.prepared.push((self.events.len(), action.clone()))
+            }
+            Action::Fill(_) | Action::Set { .. } => self.lost = true,
+            _ => {}
+        }
+    }
+
     /// How many words it was to run.
     fn words(&self) -> u64 {
-        let runs = self.deeds.iter().filter_map(|deed| match deed {
-            Action::Event(Event { kind: kind::RUN, value }) => Some(u64::from(*value)),
-            _ => None,
-        });
-        runs.sum()
+        self.events.iter().filter(|event| event.kind == kind::RUN).map(|event| u64::from(event.value)).sum()
     }
 
     /// Does it again word by word; none if too much was done since. The machine has the images.
@@ -80,14 +77,17 @@ impl Since {
         machine.go_back(&self.kept);
         let columns = Columns::of_program(&machine.program);
         let mut stretch = Stretch { before: State::of(&machine), words: 0, lines: Vec::new() };
-        for deed in &self.deeds {
-            match deed {
-                Action::Event(Event { kind: kind::RUN, value: words @ 1..=0xffff }) => run(&mut machine, *words, &columns, &mut stretch),
-                Action::Event(event) => {
+        let mut prepared = self.prepared.iter().peekable();
+        for (at, event) in self.events.iter().enumerate() {
+            while let Some((_, action)) = prepared.next_if(|(before, _)| *before <= at) {
+                prepare(&mut machine, action);
+            }
+            match event {
+                Event { kind: kind::RUN, value: words @ 1..=0xffff } => run(&mut machine, *words, &columns, &mut stretch),
+                event => {
                     let line = columns.event(&give_event(&mut machine, *event));
                     stretch.add(line);
                 }
-                other => prepare(&mut machine, other),
             }
         }
         Some(stretch)

@@ -47,7 +47,7 @@ fn every_expectation_of_the_examples_is_held() {
 fn played(text: &str) -> Result<(), Fault> {
     let mut player = Player::new();
     read_text(Path::new("x"), text.as_bytes())?.iter().try_for_each(|statement| player.play(statement).map(|_| ()))?;
-    player.settle(None)
+    player.settle()
 }
 
 /// An expectation with another number at its end.
