@@ -77,7 +77,7 @@ pub fn missing(findings: &Findings, frame: &Frame) -> Option<(f64, f64)> {
 mod tests {
     use super::*;
     use crate::report::axis::Sitting;
-    use crate::report::samples;
+    use crate::tracks::samples;
     use crate::tracks::time::Start;
 
     fn of(findings: &Findings) -> Vec<Band> {

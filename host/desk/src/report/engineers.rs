@@ -56,7 +56,7 @@ fn preformatted(text: &str) -> String {
 mod tests {
     use super::*;
     use crate::fault::Fault;
-    use crate::report::samples;
+    use crate::tracks::samples;
 
     #[test]
     fn the_words_in_question_are_shown_with_the_registers_before_them() {

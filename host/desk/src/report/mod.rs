@@ -9,8 +9,6 @@ mod facts;
 mod footer;
 mod heading;
 mod page;
-#[cfg(test)]
-mod samples;
 mod section;
 mod sentence;
 mod sources;

@@ -35,9 +35,9 @@ pub fn page(title: &str, tracks: &[Findings], start: Start) -> String {
 mod tests {
     use super::*;
     use crate::fault::Fault;
-    use crate::report::samples;
     use crate::report::tags;
     use crate::tracks::findings::Chip;
+    use crate::tracks::samples;
 
     const NASTY: [&str; 6] = [
         "</title></style><script>alert(1)</script>",
@@ -112,7 +112,7 @@ mod tests {
             findings.rate = Some(100);
             let mut noise = samples::Noise::new(9);
             for at in 0..1000 {
-                let inputs: Vec<i16> = (0..sources).map(|_| noise.next()).collect();
+                let inputs: Vec<i16> = (0..sources).map(|_| noise.sample()).collect();
                 findings.sample(&inputs, Chip::Sends(0), u16::from(at > 500), None);
             }
             findings.end();

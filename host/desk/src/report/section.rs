@@ -101,7 +101,7 @@ fn largest(findings: &Findings, start: Start) -> String {
 #[cfg(test)]
 mod tests {
     use super::*;
-    use crate::report::samples;
+    use crate::tracks::samples;
 
     #[test]
     fn the_first_difference_is_told_as_numbers() {

@@ -1,13 +1,11 @@
 //! One sentence about a track for the coordinator: wrong since when, and what is on it instead.
 
 use crate::report::times;
-use crate::tracks::findings::{Column, Difference, Findings};
+use crate::tracks::extent::Extent;
+use crate::tracks::findings::Findings;
 use crate::tracks::heard::{self, Summary};
 use crate::tracks::time::{self, Start};
 use crate::tracks::verdict::Verdict;
-
-/// Fewer wrong samples than one in so many, between the first and the last, are counted and not called a stretch.
-const SPARSE: u64 = 100;
 
 pub fn sentence(findings: &Findings, start: Start) -> String {
     match Verdict::of(findings) {
@@ -20,13 +18,8 @@ pub fn sentence(findings: &Findings, start: Start) -> String {
     }
 }
 
-/// Whether nothing but silence was sent.
-pub fn is_silent(findings: &Findings) -> bool {
-    findings.samples > 0 && findings.strip.columns.iter().all(|column| column.peak == 0)
-}
-
 fn agrees(findings: &Findings) -> String {
-    let silent = if is_silent(findings) { " It is silent all the time." } else { "" };
+    let silent = if findings.is_silent() { " It is silent all the time." } else { "" };
     match findings.samples {
         0 => "No sample was sent.".to_string(),
         1 => format!("Its one sample is as the chip sends it.{silent}"),
@@ -48,13 +41,16 @@ fn wrong(findings: &Findings, start: Start) -> String {
             _ => "The samples are right, but something else is not as the chip does it: see its own part below.".to_string(),
         };
     };
-    match findings.differing {
-        0 | 1 => format!("One sample is wrong{}.", at(findings, first.sample, start)),
-        few if is_sparse(findings, first) => {
+    match Extent::of(findings, first.sample) {
+        Extent::One => format!("One sample is wrong{}.", at(findings, first.sample, start)),
+        Extent::Scattered => {
             let (from, to) = (time::at(first.sample, findings.rate, start), time::at(findings.last, findings.rate, start));
-            format!("{} are wrong, the first: {from}, the last: {to}.", times::counted(few, "sample"))
+            format!("{} are wrong, the first: {from}, the last: {to}.", times::counted(findings.differing, "sample"))
         }
-        _ => format!("Wrong {}{}.", when(findings, first, start), instead(findings)),
+        Extent::Stretch { lasts, now_and_then } => {
+            let now_and_then = if now_and_then { "now and then, " } else { "" };
+            format!("Wrong {now_and_then}{}{}.", when(findings, first.sample, lasts, start), instead(findings))
+        }
     }
 }
 
@@ -67,36 +63,14 @@ fn at(findings: &Findings, sample: u64, start: Start) -> String {
     }
 }
 
-fn is_sparse(findings: &Findings, first: &Difference) -> bool {
-    let stretch = findings.last.saturating_sub(first.sample) + 1;
-    findings.differing.saturating_mul(SPARSE) < stretch
-}
-
-fn when(findings: &Findings, first: &Difference, start: Start) -> String {
+fn when(findings: &Findings, first: u64, lasts: bool, start: Start) -> String {
     let about = |sample| times::about(findings, sample, start);
-    let now_and_then = if is_broken(findings) { "now and then, " } else { "" };
-    let when = match (first.sample, lasts(findings)) {
+    match (first, lasts) {
         (0, true) => "from beginning to end".to_string(),
         (0, false) => format!("from the beginning to {}", about(findings.last)),
         (from, true) => format!("from {} on", about(from)),
         (from, false) => format!("from {} to {}", about(from), about(findings.last)),
-    };
-    format!("{now_and_then}{when}")
-}
-
-/// Whether it differs until the end, or as good as that: the last second may be silence.
-fn lasts(findings: &Findings) -> bool {
-    let left = findings.samples.saturating_sub(findings.last + 1);
-    left <= u64::from(findings.rate.unwrap_or(0)).max(findings.samples / 100)
-}
-
-/// Whether less than half of the columns from the first that differs to the last do.
-fn is_broken(findings: &Findings) -> bool {
-    let differs = |column: &Column| column.differing > 0;
-    let columns = &findings.strip.columns;
-    let (Some(first), Some(last)) = (columns.iter().position(differs), columns.iter().rposition(differs)) else { return false };
-    let wrong = columns.iter().filter(|column| differs(column)).count();
-    2 * wrong < last - first + 1
+    }
 }
 
 /// What is on the track instead, behind a colon.
@@ -151,7 +125,7 @@ fn stopped(message: &str) -> String {
 mod tests {
     use super::*;
     use crate::fault::Fault;
-    use crate::report::samples;
+    use crate::tracks::samples;
 
     fn said(findings: &Findings) -> String {
         sentence(findings, Start(None))

@@ -203,7 +203,7 @@ fn gain(gain: f64) -> String {
 mod tests {
     use super::*;
     use crate::report::axis::Sitting;
-    use crate::report::samples;
+    use crate::tracks::samples;
     use crate::tracks::time::Start;
 
     fn shown(findings: &Findings) -> String {

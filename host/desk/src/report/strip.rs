@@ -89,7 +89,7 @@ fn marker(findings: &Findings, first: &Difference, frame: &Frame, bottom: f64, s
 mod tests {
     use super::*;
     use crate::report::axis::Sitting;
-    use crate::report::samples;
+    use crate::tracks::samples;
 
     fn drawn(findings: &Findings) -> String {
         let sitting = Sitting::of(std::slice::from_ref(findings), Start(None));

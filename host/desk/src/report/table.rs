@@ -101,7 +101,7 @@ fn legend() -> String {
 #[cfg(test)]
 mod tests {
     use super::*;
-    use crate::report::samples;
+    use crate::tracks::samples;
     use crate::tracks::time::Start;
 
     #[test]

@@ -262,6 +262,11 @@ impl Findings {
         self.wrong.as_ref().map(Sums::shares)
     }
 
+    /// Whether nothing but silence was sent.
+    pub fn is_silent(&self) -> bool {
+        self.samples > 0 && self.strip.columns.iter().all(|column| column.peak == 0)
+    }
+
     /// How many samples there should be, or are.
     pub fn whole(&self) -> u64 {
         self.length.unwrap_or(0).max(self.samples)

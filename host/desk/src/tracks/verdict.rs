@@ -3,6 +3,7 @@
 use crate::chip::event::refusal;
 use crate::numbers;
 use crate::sound::levels;
+use crate::tracks::extent::Extent;
 use crate::tracks::findings::{Chip, Difference, Findings};
 use crate::tracks::heard::{self, Summary};
 use crate::tracks::time::{self, Start};
@@ -65,6 +66,9 @@ pub fn sentence(findings: &Findings, start: Start) -> String {
             1 => "1 sample, as the chip sends it".to_string(),
             samples => format!("{}{}, all as the chip sends them", counted(samples), lasting(findings)),
         });
+        if findings.is_silent() {
+            parts.push("it is silent all the time".to_string());
+        }
     } else if findings.first.is_none() && findings.samples > 0 {
         let are = if findings.samples == 1 { "is as the chip sends it" } else { "are as the chip sends them" };
         parts.push(format!("the {} that could be compared {are}", counted(findings.samples)));
@@ -78,16 +82,25 @@ fn lasting(findings: &Findings) -> String {
 }
 
 fn differs(findings: &Findings, difference: &Difference, start: Start) -> String {
-    let when = match findings.rate {
-        Some(_) => format!("{} (sample {})", time::at(difference.sample, findings.rate, start), difference.sample),
-        None => format!("sample {}", difference.sample),
+    let at = |sample| match findings.rate {
+        Some(_) => format!("{} (sample {sample})", time::at(sample, findings.rate, start)),
+        None => format!("sample {sample}"),
+    };
+    let (first, last) = (at(difference.sample), at(findings.last));
+    let when = match Extent::of(findings, difference.sample) {
+        Extent::One => format!("at {first}"),
+        Extent::Scattered => format!("here and there from {first} to {last}; at the first of these samples"),
+        Extent::Stretch { lasts, now_and_then } => {
+            let now_and_then = if now_and_then { "now and then, " } else { "" };
+            let to = if lasts { "on".to_string() } else { format!("to {last}") };
+            format!("{now_and_then}from {first} {to}; at the first of these samples")
+        }
     };
     let sent = numbers::register(difference.sent);
     let chip = match difference.chip {
         Chip::Sends(word) => format!("the chip sends {}", numbers::register(word)),
         Chip::Refuses(number) => format!("the chip sends nothing ({})", refusal(number)),
     };
-    let from = if findings.differing == 1 { format!("at {when}") } else { format!("from {when} on") };
     let largest = match findings.largest.error {
         0 => String::new(),
         error => format!(", by {} at most ({})", steps(error), levels::print(levels::decibels(f64::from(error) / levels::FULL_SCALE))),
@@ -95,7 +108,7 @@ fn differs(findings: &Findings, difference: &Difference, start: Start) -> String
     let place = difference.place.map_or_else(String::new, |place| format!(" ({place})"));
     let (differing, samples) = (findings.differing, counted(findings.samples));
     let differ = if differing == 1 { "differs" } else { "differ" };
-    format!("{from} the desk sent {sent}, {chip}{place}; {differing} of {samples} {differ}{largest}")
+    format!("{when} the desk sent {sent}, {chip}{place}; {differing} of {samples} {differ}{largest}")
 }
 
 fn counted(samples: u64) -> String {
@@ -118,4 +131,42 @@ pub fn on_the_track(findings: &Findings) -> Option<String> {
         Summary::Right => "the sources on it are the right ones".to_string(),
         Summary::Wrong(what) => what,
     })
+}
+
+#[cfg(test)]
+mod tests {
+    use super::*;
+    use crate::tracks::samples;
+
+    /// What stands before the word that was sent, and how many differ.
+    fn begins(findings: &Findings, beginning: &str, differ: &str) {
+        let said = sentence(findings, Start(None));
+        assert!(
+            said.starts_with(&format!("{beginning} the desk sent ")) && said.contains(&format!("; {differ} of 80000 samples ")),
+            "{said}"
+        );
+    }
+
+    #[test]
+    fn a_line_tells_over_how_much_of_a_track_it_is_wrong() {
+        begins(&samples::flipped("x", 40_000), "at 0:00:05.000 (sample 40000)", "1");
+        let few = samples::disturbed("x", |at| at == 8000 || at == 16_000);
+        begins(&few, "here and there from 0:00:01.000 (sample 8000) to 0:00:02.000 (sample 16000); at the first of these samples", "2");
+        let many = samples::disturbed("x", |at| at % 101 == 0);
+        begins(&many, "here and there from 0:00:00.000 (sample 0) to 0:00:09.999 (sample 79992); at the first of these samples", "793");
+        let two = samples::disturbed("x", |at| at == 3 || at == 4);
+        begins(&two, "from 0:00:00.000 (sample 3) to 0:00:00.000 (sample 4); at the first of these samples", "2");
+        let since_then = samples::disturbed("x", |at| at >= 42_000);
+        begins(&since_then, "from 0:00:05.250 (sample 42000) on; at the first of these samples", "38000");
+        let again_right = samples::disturbed("x", |at| (8_000..16_000).contains(&at));
+        begins(&again_right, "from 0:00:01.000 (sample 8000) to 0:00:01.999 (sample 15999); at the first of these samples", "8000");
+        let now_and_then = samples::disturbed("x", |at| at % 8000 < 400);
+        begins(&now_and_then, "now and then, from 0:00:00.000 (sample 0) on; at the first of these samples", "4000");
+    }
+
+    #[test]
+    fn a_silent_track_that_agrees_is_told() {
+        let said = sentence(&samples::silent("x"), Start(None));
+        assert_eq!(said, "80000 samples (0:00:10.000), all as the chip sends them; it is silent all the time");
+    }
 }

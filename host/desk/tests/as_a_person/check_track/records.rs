@@ -31,7 +31,9 @@ fn without_a_rate_the_sample_alone_tells_when() {
     let record = good(5).replace("rate 48000\n", "");
     folder.check_text(&record).is("agrees", "5 samples, all as the chip sends them");
     folder.check_text(&with_sent(&record, 3, 0)).begins("differs", "at sample 3 the desk sent 0000H, the chip sends ");
-    folder.check_text(&with_sent(&with_sent(&record, 3, 0), 4, 0)).begins("differs", "from sample 3 on the desk sent 0000H, ");
+    folder
+        .check_text(&with_sent(&with_sent(&record, 3, 0), 4, 0))
+        .begins("differs", "from sample 3 on; at the first of these samples the desk sent 0000H, ");
 }
 
 /// LDI sends 1234H to SOL at 000H and to SOM at 001H.

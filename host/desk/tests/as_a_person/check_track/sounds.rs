@@ -75,7 +75,7 @@ fn a_track_that_lost_its_first_sample_differs() {
         samples.remove(0);
     });
     let checked = folder.check(CHECK);
-    checked.begins("differs", "from 0:00:00.000 (sample 0) on the desk sent ");
+    checked.begins("differs", "from 0:00:00.000 (sample 0) on; at the first of these samples the desk sent ");
     checked.says("differs", "; track.wav ends after 1999 samples: the sources have 2000");
 }
 

@@ -181,7 +181,7 @@ fn the_good_record_agrees() {
 fn the_trial_record_differs_at_its_first_sample() {
     let checked = Folder::with_trial_records().check("trial.record");
     let (desk, chip, line) = (hexadecimal(mix_of_room(0)), hexadecimal(mix_of_channels(0)), line_of_sample(&trial_record(), 0));
-    let first = format!("from 0:00:00.000 (sample 0) on the desk sent {desk}, the chip sends {chip} (trial.record:{line}:1); ");
+    let first = format!("from 0:00:00.000 (sample 0) on; at the first of these samples the desk sent {desk}, the chip sends {chip} (trial.record:{line}:1); ");
     checked.begins("differs", &format!("{first}48 of 48 samples differ, by "));
 }
 

@@ -17,7 +17,7 @@ impl Noise {
         Noise(Random::new(seed))
     }
 
-    pub fn next(&mut self) -> i16 {
+    pub fn sample(&mut self) -> i16 {
         self.0.word() as i16 >> 2
     }
 }
@@ -30,7 +30,7 @@ pub fn track(name: &str, length: u64, sent: impl Fn(u64, &[i16; 4], i16) -> i16)
     let mut sources = [Noise::new(1), Noise::new(2), Noise::new(3), Noise::new(4)];
     let file = named(Path::new("evening/x.record"));
     for at in 0..length {
-        let inputs = [0, 1, 2, 3].map(|source: usize| sources[source].next());
+        let inputs = [0, 1, 2, 3].map(|source: usize| sources[source].sample());
         let chip = mixed(&inputs, &ASKED);
         let place = Place { file, spot: Spot::Line { line: 10 * at + 5, column: 1 } };
         findings.sample(&inputs, Chip::Sends(chip as u16), sent(at, &inputs, chip) as u16, Some(place));
