@@ -54,8 +54,8 @@ lib:
 format: lib
 	@tools/format
 
-# The scripts that judge and build, the library from C, C++ and Rust, and the proved core against the independent emulator.
-compare: format
+# The scripts that judge and build, the library from C, C++ and Rust, the report in a browser, and the proved core against the independent emulator.
+compare: format desk
 	@tests/gate
 	@tests/refusals
 	@tests/kit
@@ -64,6 +64,7 @@ compare: format
 	@$(FOR_X86_64) tests/readme dist
 	@tests/first_commands
 	@$(FOR_X86_64) tests/install
+	@$(FOR_X86_64) tests/report target/report
 	@cd host && $(CARGO) test --release
 	@cd host && $(CARGO) run --release --package compare
 
@@ -89,9 +90,10 @@ uninstall:
 damaged-long: lib
 	@cd host && DAMAGED=3000000 $(CARGO) test --release --package desk --test damaged -- --nocapture
 
-# The report page that `desk check-track --report` writes, as a person sees it.
+# The report page that `desk check-track --report` writes, as a person sees it: target/report/report.png.
 test-report: desk
-	@$(FOR_X86_64) tests/report
+	@$(FOR_X86_64) tests/report target/report
+	@echo 'as it looks: target/report/report.png'
 
 # A sitting of many tracks, checked from beginning to end.
 sitting: lib
