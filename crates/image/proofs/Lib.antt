@@ -1,0 +1,13 @@
+pub mod Cases
+pub mod Characters
+pub mod Records
+pub mod Lines
+pub mod Giving
+pub mod Walking
+pub mod Fills
+pub mod Loads
+pub mod Proper
+pub mod Promises
+pub mod Order
+pub mod Letters
+pub mod Endings

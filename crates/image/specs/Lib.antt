@@ -1,0 +1,6 @@
+pub mod Hexadecimal
+pub mod Lines
+pub mod Record
+pub mod IntelHex
+pub mod Image
+pub mod Promises
