@@ -145,7 +145,7 @@ impl<R: Read> Reader<R> {
         self.possible(begin, tag, length)?;
         let check = self.read_payload(&head, length)?;
         if check != self.crc.value() {
-            let message = format!("a block of {length} bytes: expected the check that stands behind it; the record was altered");
+            let message = format!("a block of {length} bytes does not have the check that stands behind it; the record was altered");
             return Err(self.bad(begin, message));
         }
         match tag {
