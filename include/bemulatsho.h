@@ -7,8 +7,8 @@
  * Each call lends them to the library for one event: so many words to run, a byte that
  * the host reads or writes, a serial word, an interrupt, a reset.
  *
- *     static uint32_t program[BEMULATSHO_WORDS]; // from the program EPROM
- *     static uint16_t rom[BEMULATSHO_CELLS];     // from the data ROM
+ *     static uint32_t program[BEMULATSHO_WORDS]; // from a text: bemulatsho_load_program
+ *     static uint16_t rom[BEMULATSHO_CELLS];     // from a text: bemulatsho_load_data
  *     static uint16_t ram[BEMULATSHO_RAM];       // at the start, what the caller wants
  *     static struct bemulatsho_registers registers;
  *
@@ -39,9 +39,10 @@
  * above: a later version may add fields.
  *
  * Every call is answered if the caller keeps the duties that stand at
- * bemulatsho_event_in_place; what cannot be done is refused by a number. "Refusal 2" is
- * the number 2 of enum bemulatsho_number. Numbers that end in H are hexadecimal. Bits
- * count from 0, the lowest. A mark or flag is 1 when its bool is true.
+ * bemulatsho_event_in_place and, for texts, at bemulatsho_load_program; what cannot be
+ * done is refused by a number. "Refusal 2" is the number 2 of enum bemulatsho_number.
+ * Numbers that end in H are hexadecimal. Bits count from 0, the lowest. A mark or flag is
+ * 1 when its bool is true.
  */
 #ifndef BEMULATSHO_H
 #define BEMULATSHO_H
@@ -200,15 +201,17 @@ struct bemulatsho_event {
 
 /*
  * The number of an answer: 0 done, else the refusal. It is one numbering with two names:
- * number in bemulatsho_reply, refusal in bemulatsho_taken_rows and bemulatsho_built. Each
- * is given exactly when its line says; where several apply, the lowest. An event call
- * gives 0 to 10, bemulatsho_take_apart 0 or 4, bemulatsho_build 0 or 11.
+ * number in bemulatsho_reply, bemulatsho_loading and bemulatsho_record, refusal in
+ * bemulatsho_taken_rows and bemulatsho_built. Each is given exactly when its line says;
+ * where several apply, the lowest; of a text, that of the first faulty record. An event
+ * call gives 0 to 10, bemulatsho_take_apart 0 or 4, bemulatsho_build 0 or 11, a load 0, 1
+ * or 12 to 16, bemulatsho_read_record 0 or 12 to 14.
  */
 enum bemulatsho_number {
     /* done */
     BEMULATSHO_DONE = 0,
     /* a lent image or RAM is not 512, 512, 128 long. In the order of the call: program,
-       data ROM, RAM. */
+       data ROM, RAM. Of a load: a lent image of the wrong length, before the rest. */
     BEMULATSHO_REFUSED_LENGTH = 1,
     /* PC, a stack cell, DP or RP too wide, depth over 4, or SR bits 6 to 2 not 0. All
        four stack cells count, at any depth. Every kind is refused, also a reset. */
@@ -232,7 +235,21 @@ enum bemulatsho_number {
     /* serial out with SORQ 0 */
     BEMULATSHO_REFUSED_SERIAL = 10,
     /* a field too wide for the builder. A row over 3 is one. */
-    BEMULATSHO_REFUSED_FIELD = 11
+    BEMULATSHO_REFUSED_FIELD = 11,
+    /* bad character or length in a line of a text. An empty line, a line without its
+       ending and an end record with data are each a bad length; so is a line with more or
+       fewer characters than its length byte says. */
+    BEMULATSHO_REFUSED_LINE = 12,
+    /* bad check byte: the record's bytes do not add up to 0 modulo 256 */
+    BEMULATSHO_REFUSED_CHECK = 13,
+    /* record type: neither 00 nor 01 */
+    BEMULATSHO_REFUSED_TYPE = 14,
+    /* address outside the image, given twice or missing. Missing is said after the last
+       record. */
+    BEMULATSHO_REFUSED_ADDRESS = 15,
+    /* no end record or text after it, if only a line feed. Said after the last record, if
+       no address is missing. */
+    BEMULATSHO_REFUSED_END = 16
 };
 
 struct bemulatsho_reply {
@@ -382,6 +399,100 @@ struct bemulatsho_taken_rows bemulatsho_take_apart(uint32_t word);
  */
 struct bemulatsho_built bemulatsho_build(struct bemulatsho_rows rows);
 
+/* ---- images from text */
+
+/*
+ * A program or a data ROM is kept as a text of Intel HEX. A text is lines, each ended by
+ * a line feed, or by a carriage return and a line feed; the last one too. A line is a
+ * record, two hexadecimal characters a byte, in capitals or small letters:
+ *
+ *     :LLAAAATTdd..CC
+ *
+ *     LL      how many data bytes there are
+ *     AAAA    the address of the first of them, high byte first
+ *     TT      the type: 00 data, 01 the end; others are refused
+ *     dd..    the data bytes
+ *     CC      the check byte: all bytes of the record add up to 0 modulo 256
+ *
+ * Of a program, word n stands at addresses 4n to 4n+3, of a data ROM, cell n at 2n and
+ * 2n+1, low byte first: 2048 and 1024 bytes. The records may come in any order and in any
+ * lengths; a data record without data gives nothing, and its address is not looked at.
+ * Every address is given exactly once. The end record comes last, has no data, and its
+ * address is not looked at:
+ *
+ *     :04000000001050009C    word 0 is 501000H
+ *     ...
+ *     :00000001FF            the end
+ *
+ * What is loaded is not looked at: a word of 2^23 or more, or a cell of 8192 or more, is
+ * loaded as it is and refused when it is used (refusals 4 and 7).
+ */
+
+/* How a text was read. */
+struct bemulatsho_loading {
+    uint8_t number; /* enum bemulatsho_number: 0 the image is filled; 1 or 12 to 16, it is
+                       as it was */
+    size_t line;    /* the line that decided, counted from 1. Of a faulty record (12 to
+                       15) its own; of an address that is missing (15), and of 0, the end
+                       record's; of text after the end record (16) the line behind it.
+                       Without an end record the last line, 0 of an empty text. With 1 it
+                       is 0: no line was looked at */
+};
+
+/*
+ * Fills a program from a text. The image is filled whole or not touched: refused, it is
+ * as it was; else every word comes from the text, and nothing is left of what was there.
+ *
+ *     struct bemulatsho_loading loading =
+ *         bemulatsho_load_program(text, text_length, program, BEMULATSHO_WORDS);
+ *     if (loading.number != BEMULATSHO_DONE) {
+ *         ...                                    // loading.line says where
+ *     }
+ *
+ * A text may hold any bytes and be of any length; it needs no 0 at its end. Its length
+ * counts characters, the image's counts words; a length that is not BEMULATSHO_WORDS is
+ * refusal 1, whatever the text. The time it takes grows with the text alone.
+ *
+ * Text and image are lent until the call returns; the library keeps neither. The duties:
+ * - As many characters and words are there as each length says.
+ * - No pointer is null, not even with length 0, and the image is aligned for its type.
+ * - The image can be written, even if the call is refused, and does not overlap the text.
+ * - While the call runs, nobody else touches the image or writes to the text.
+ * Where one of these is not kept, nothing is promised. A call takes less than 8 KiB of
+ * stack; that was read from the compiled code of this version and is no part of the
+ * proof.
+ */
+struct bemulatsho_loading bemulatsho_load_program(
+    const uint8_t *text, size_t text_length,
+    uint32_t *image, size_t image_length); /* BEMULATSHO_WORDS */
+
+/* Fills a data ROM from a text, in the same way. */
+struct bemulatsho_loading bemulatsho_load_data(
+    const uint8_t *text, size_t text_length,
+    uint16_t *image, size_t image_length); /* BEMULATSHO_CELLS */
+
+/* What a line says as a record. When refused, all but number is 0. */
+struct bemulatsho_record {
+    uint8_t number;   /* enum bemulatsho_number: 0 or the refusal, 12 to 14 */
+    uint8_t kind;     /* the type, 0 or 1 */
+    uint16_t address; /* the address of its first data byte */
+    uint8_t bytes;    /* how many data bytes there are; 0 of an end record */
+    size_t offset;    /* where its data characters begin in the line: 9; refused, 0 */
+    size_t length;    /* how many characters they are: two a byte */
+};
+
+/*
+ * Reads one line, with its ending, as a record. Its data characters are the part of the
+ * caller's own line from offset on, length characters; they are always within the line. A
+ * refused record's part is empty, and so is an end record's. Knows no image: whether an
+ * address is outside or given twice (15), and where a text has to end (16), is for a load
+ * to say.
+ *
+ * The line is lent until the call returns: as many characters are there as its length
+ * says, the pointer is not null, and nobody writes to it meanwhile.
+ */
+struct bemulatsho_record bemulatsho_read_record(const uint8_t *line, size_t line_length);
+
 /* ---- layout: the bytes that the library expects */
 
 /*
@@ -393,6 +504,8 @@ struct bemulatsho_built bemulatsho_build(struct bemulatsho_rows rows);
  *     rows          1 byte before jp, besides that of jp
  *     taken_rows    1 byte after refusal, besides those of rows
  *     built         3 bytes after refusal
+ *     loading       7 bytes after number
+ *     record        3 bytes after bytes
  *
  * Padding means nothing and may hold anything. Records of a kind without padding may be
  * compared by memcmp; the others field by field.
@@ -490,6 +603,18 @@ BEMULATSHO_OFFSET(taken_rows, rows, 2);
 BEMULATSHO_SIZE(built, 8);
 BEMULATSHO_OFFSET(built, refusal, 0);
 BEMULATSHO_OFFSET(built, bits, 4);
+
+BEMULATSHO_SIZE(loading, 16);
+BEMULATSHO_OFFSET(loading, number, 0);
+BEMULATSHO_OFFSET(loading, line, 8);
+
+BEMULATSHO_SIZE(record, 24);
+BEMULATSHO_OFFSET(record, number, 0);
+BEMULATSHO_OFFSET(record, kind, 1);
+BEMULATSHO_OFFSET(record, address, 2);
+BEMULATSHO_OFFSET(record, bytes, 4);
+BEMULATSHO_OFFSET(record, offset, 8);
+BEMULATSHO_OFFSET(record, length, 16);
 
 #undef BEMULATSHO_OFFSET
 #undef BEMULATSHO_SIZE

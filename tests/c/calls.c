@@ -1,26 +1,10 @@
 /*
- * Every function of the library, called from C11 and, by the same text, from C++17. The numbers are
- * those of the rules paper (01). What is lent comes from malloc with exactly the length lent, so that
- * a memory checker sees any access outside. The first check that fails ends the program with status 1.
+ * Every function of the machine and of words, called from C11 and, by the same text, from C++17; the
+ * numbers are those of the rules paper (01). The first check that fails ends the program with status 1.
  */
 #include "bemulatsho.h"
 
-#include <stdio.h>
-#include <stdlib.h>
-#include <string.h>
-
-static unsigned checks;
-
-static void check(bool holds, const char *what, int line)
-{
-    if (!holds) {
-        fprintf(stderr, "calls.c:%d: not so: %s\n", line, what);
-        exit(1);
-    }
-    checks++;
-}
-
-#define CHECK(condition) check((condition), #condition, __LINE__)
+#include "checks.h"
 
 static const char *name_of(uint8_t number)
 {
@@ -68,17 +52,6 @@ static void check_reply(struct bemulatsho_reply reply, unsigned number, unsigned
 #define REPLY(reply, number, words, value) check_reply((reply), (number), (words), (value), __LINE__)
 
 /* ---- what is lent */
-
-static void *lend(size_t length, size_t size)
-{
-    void *start = malloc(length * size);
-    if (start == NULL) {
-        fputs("calls.c: malloc gave nothing\n", stderr);
-        exit(1);
-    }
-    memset(start, 0, length * size);
-    return start;
-}
 
 struct machine {
     struct bemulatsho_registers *registers;

@@ -2,7 +2,7 @@
 -- Assumes nothing.
 use mathlib.Core.Path.{sym, ap, _∙_}
 use Rattle.machine.specs.Replies.{Ending}
-use Rattle.board.specs.Unique.{OneReply, OneTaken, OneBuilt}
+use Rattle.board.specs.Unique.{OneReply, OneTaken, OneBuilt, OneRecord}
 
 pub one-reply : OneReply
 one-reply r program rom ram kind value x y q₁ q₂ ram₁ ram₂ e₁ e₂ =
@@ -14,3 +14,6 @@ one-taken w x y e₁ e₂ = e₁ ∙ sym e₂
 
 pub one-built : OneBuilt
 one-built rows x y e₁ e₂ = e₁ ∙ sym e₂
+
+pub one-record : OneRecord
+one-record line x y e₁ e₂ = e₁ ∙ sym e₂

@@ -1,4 +1,5 @@
 pub mod InPlace
 pub mod Rows
+pub mod RecordInLine
 pub mod RoundTrip
 pub mod Unique

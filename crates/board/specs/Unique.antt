@@ -7,9 +7,11 @@ use Rattle.word.specs.declared.Built.{Built}
 use Rattle.machine.specs.Events.{eventDone}
 use Rattle.board.specs.InPlace.{endingInPlace}
 use Rattle.board.specs.Rows.{takenRows, builtRows}
+use Rattle.board.specs.RecordInLine.{recordInLine}
 use Rattle.board.specs.declared.Reply.{Reply}
 use Rattle.board.specs.declared.Rows.{Rows}
 use Rattle.board.specs.declared.TakenRows.{TakenRows}
+use Rattle.board.specs.declared.texts.Record.{Record}
 
 -- `bemulatsho_event_in_place`: the reply, the record and the RAM
 abbrev pub OneReply : Type 0
@@ -24,3 +26,7 @@ OneTaken = (w : ℕ) (x y : TakenRows) → x ≡ takenRows w → y ≡ takenRows
 
 abbrev pub OneBuilt : Type 0
 OneBuilt = (rows : Rows) (x y : Built) → x ≡ builtRows rows → y ≡ builtRows rows → x ≡ y
+
+-- `bemulatsho_read_record`; of `bemulatsho_load_program` and `bemulatsho_load_data` image's `OneAnswer` says it
+abbrev pub OneRecord : Type 0
+OneRecord = (line : List ℕ) (x y : Record) → x ≡ recordInLine line → y ≡ recordInLine line → x ≡ y

@@ -1,10 +1,14 @@
-// The desk's library: the machine in the caller's record, and words taken apart and built, under C names. include/bemulatsho.h is its header.
+// The desk's library: the machine in the caller's record, words taken apart and built, and images from texts, under C names.
+// include/bemulatsho.h is its header.
 ghost use mathlib.Core.Path.{_≡_};
 ghost use Rattle.device.specs.Registers.{freshRegisters};
 ghost use Rattle.machine.specs.Events.{eventDone};
 ghost use Rattle.word.specs.Fields.{opFields, jpFields, ldiFields};
 ghost use Rattle.board.specs.InPlace.{endingInPlace};
 ghost use Rattle.board.specs.Rows.{takenRows, builtRows};
+
+mod texts;
+
 use device::Registers;
 use device::Upd77p20;
 use word::Built;

@@ -2,9 +2,11 @@
 //! length that is not its buffer's own. Every input is accepted; a refused one gets its number and changes nothing.
 
 mod record;
+mod texts;
 mod words;
 
 pub use record::{BothFlags, Flags, Registers};
+pub use texts::{load_data, load_program, read_record, Loading, Record};
 pub use words::{build, take_apart, JpFields, LdiFields, OpFields, Word};
 
 /// Instruction words, data ROM cells and RAM cells that a call is lent.

@@ -1,6 +1,7 @@
 //! Each call of the wrapper, with answers from the rules.
 
-use bemulatsho::{build, event, fresh_registers, kind, take_apart, version, JpFields, LdiFields, OpFields, Registers, Reply, Word};
+use bemulatsho::{build, event, fresh_registers, kind, load_data, load_program, read_record, take_apart, version};
+use bemulatsho::{JpFields, LdiFields, Loading, OpFields, Record, Registers, Reply, Word};
 
 fn run(word: u32, registers: &mut Registers) -> Reply {
     let mut program = [0; bemulatsho::WORDS];
@@ -43,4 +44,32 @@ fn words_are_taken_apart_and_built() {
     assert_eq!(build(&load), Ok(0x624681));
     assert_eq!(build(&Word::Op(OpFields { psel: 4, ..OpFields::default() })), Err(11));
     assert_eq!(build(&Word::Rt(OpFields { alu: 5, psel: 2, ..OpFields::default() })), Ok(0x328000));
+}
+
+#[test]
+fn an_image_is_filled_whole_or_not_touched() {
+    let mut text = String::new();
+    for cell in 0..512usize {
+        let check = (2 + 2 * cell / 256 + 2 * cell % 256 + cell / 256 + cell % 256).wrapping_neg() & 255;
+        text.push_str(&format!(":02{:04X}00{:02X}{:02X}{check:02X}\n", 2 * cell, cell % 256, cell / 256));
+    }
+    let mut image = [7; bemulatsho::CELLS];
+    assert_eq!(load_data(text.as_bytes(), &mut image), Loading { number: 16, line: 512 });
+    assert_eq!(image, [7; bemulatsho::CELLS]);
+    text.push_str(":00000001FF\n");
+    assert_eq!(load_data(text.as_bytes(), &mut image), Loading { number: 0, line: 513 });
+    assert!(image.iter().zip(0..).all(|(cell, number)| *cell == number));
+    assert_eq!(load_data(text.as_bytes(), &mut image[1..]), Loading { number: 1, line: 0 });
+    let mut program = [7; bemulatsho::WORDS];
+    assert_eq!(load_program(text.as_bytes(), &mut program), Loading { number: 15, line: 513 });
+    assert_eq!(program, [7; bemulatsho::WORDS]);
+}
+
+#[test]
+fn the_data_characters_are_the_very_part_of_the_line() {
+    let line = b":0300300002337A1E\r\n";
+    let record = read_record(line);
+    assert_eq!(record, Record { number: 0, kind: 0, address: 0x30, bytes: 3, data: b"02337A" });
+    assert_eq!(record.data.as_ptr(), line[9..].as_ptr());
+    assert_eq!(read_record(b":0300300002337A1F\n"), Record { number: 13, ..Record::default() });
 }
