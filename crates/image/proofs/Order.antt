@@ -31,11 +31,11 @@ free-if a b bs g false q h =
     absurd (omega (arith, h, ap (λ (p : Given). p .number) (give-taken a b bs g (eqb-false (getD g a 0) 256 q))))
 
 -- where a byte was given none was before
-was-free : (a b : ℕ) (bs g g′ : List ℕ) → give a (b ∷ bs) g ≡ given 0 g′ → getD g a 0 ≡ 256
+pub was-free : (a b : ℕ) (bs g g′ : List ℕ) → give a (b ∷ bs) g ≡ given 0 g′ → getD g a 0 ≡ 256
 was-free a b bs g g′ h = free-if a b bs g (eqb (getD g a 0) 256) refl (ap (λ (p : Given). p .number) h)
 
 -- outside of the image nothing is free: 0 is read there
-free-inside : (g : List ℕ) (a : ℕ) (t : Bool) → ltb a (length g) ≡ t → getD g a 0 ≡ 256 → a < length g
+pub free-inside : (g : List ℕ) (a : ℕ) (t : Bool) → ltb a (length g) ≡ t → getD g a 0 ≡ 256 → a < length g
 free-inside g a true q e = ltb-true a (length g) q
 free-inside g a false q e = absurd (omega (arith, e, List·getD-eq-default g 0 (ltb-false a (length g) q)))
 

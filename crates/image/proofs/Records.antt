@@ -118,10 +118,13 @@ module _ (l : List ℕ) where
   unfolding dataStart
   start-good h = rw (eq-eqb _ _ h)
 
-  pub length-good : recordHead l .number ≡ 0 → recordHead l .length ≡ dataLength l
-  length-good h =
+  pub head-good : recordHead l .number ≡ 0 → recordHead l ≡ record { number = 0; kind = recordType l; address = address l; length = dataLength l }
+  head-good h =
       let p = good h in
-      ap (λ (r : RecordHead). r .length) (head-said l (p .0) (p .1) ∙ said-0 l (omega (arith, ltb-false 1 (recordType l) (p .2))))
+      head-said l (p .0) (p .1) ∙ said-0 l (omega (arith, ltb-false 1 (recordType l) (p .2)))
+
+  pub length-good : recordHead l .number ≡ 0 → recordHead l .length ≡ dataLength l
+  length-good h = ap (λ (r : RecordHead). r .length) (head-good h)
 
   -- the data characters of a good record stand in the line, before its check byte
   pub part-within : recordHead l .number ≡ 0 → 12 + 2 * recordHead l .length ≤ length l
