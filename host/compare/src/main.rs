@@ -10,6 +10,7 @@ mod machines;
 mod mixing;
 mod pair;
 mod states;
+mod texts;
 mod tracks;
 
 use coverage::Coverage;
@@ -18,14 +19,16 @@ use std::process::exit;
 
 const SEED: u64 = 0x7720;
 const EVENTS: u64 = 2_000_000;
+const TEXTS: u64 = 1_000_000;
 
 fn main() {
     let arguments: Vec<String> = std::env::args().skip(1).collect();
     let result = match arguments.iter().map(String::as_str).collect::<Vec<_>>()[..] {
         [] => everything(),
         ["machines", seed, events] => random_machines(number("seed", seed), number("number of events", events)),
+        ["texts", seed, texts] => random_texts(number("seed", seed), number("number of texts", texts)),
         _ => {
-            eprintln!("usage: compare | compare machines SEED EVENTS");
+            eprintln!("usage: compare | compare machines SEED EVENTS | compare texts SEED TEXTS");
             exit(2);
         }
     };
@@ -59,28 +62,37 @@ fn everything() -> Result<(), String> {
     let (samples, clipped) = tracks::compare()?;
     report(samples, &format!("samples of twelve tracks of three sources ({clipped} clipped), within the bound of exact arithmetic"));
     report(mixing::compare()?, "words of the mixing loop, ending where other emulators of the chip end");
-    Ok(())
+    random_texts(SEED, TEXTS)
 }
 
 /// Random machines; a failure prints the seed of its machine and the smallest case.
 fn random_machines(seed: u64, events: u64) -> Result<(), String> {
     let mut coverage = Coverage::new();
-    let terminal = stderr().is_terminal();
-    let progress = |done: u64| {
-        if terminal && done.is_multiple_of(1_000_000) {
-            eprint!("\r{} of {} million events", done / 1_000_000, events.div_ceil(1_000_000));
-        }
-    };
-    let done = machines::compare(seed, events, &mut coverage, progress).map_err(|failure| {
+    let done = machines::compare(seed, events, &mut coverage, progress(events, 1_000_000, "events")).map_err(|failure| {
         format!("machine of seed {}, event {}, as small as it gets:\n{}", failure.seed, failure.event, failure.difference.smallest())
     })?;
-    if terminal {
-        eprintln!();
-    }
     let missing = coverage.missing();
     if !missing.is_empty() {
         return Err(format!("{done} events never met: {}", missing.join(", ")));
     }
     report(done, &format!("events on random machines from seed {seed}, every code, condition, refusal and kind met"));
     Ok(())
+}
+
+/// Random texts; a failure prints the seed of its image and the smallest text.
+fn random_texts(seed: u64, texts: u64) -> Result<(), String> {
+    let done = texts::compare(seed, texts, progress(texts, 80_000, "texts"))?;
+    report(done, &format!("texts of Intel HEX from seed {seed}, whole and damaged, read as the second reader reads them"));
+    Ok(())
+}
+
+/// Tells on a terminal how far a long comparison is, every so many.
+fn progress(all: u64, every: u64, what: &'static str) -> impl Fn(u64) {
+    let terminal = stderr().is_terminal();
+    move |done| {
+        if terminal && (done.is_multiple_of(every) || done >= all) {
+            let end = if done >= all { "\n" } else { "" };
+            eprint!("\r{done} of {all} {what}{end}");
+        }
+    }
 }

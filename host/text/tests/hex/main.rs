@@ -1,0 +1,18 @@
+//! Every sentence of the rules on Intel HEX, as one text or more.
+
+mod addresses;
+mod character_or_length;
+mod check_byte;
+mod damaged;
+mod ends;
+mod good_records;
+mod image_length;
+mod lent;
+mod letters;
+mod line_endings;
+mod order;
+mod places;
+mod tools;
+mod types;
+mod writer;
+mod zeros;
