@@ -12,9 +12,10 @@ CARGO := $(FOR_X86_64) $(CARGO)
 BUILT = host/target/x86_64-unknown-linux-gnu/release
 endif
 
-# A longer comparison: `make compare-long SEED=1 EVENTS=500000000`.
+# Longer comparisons: `make compare-long SEED=1 EVENTS=500000000`, `make compare-texts SEED=1 TEXTS=50000000`.
 SEED = 1
 EVENTS = 200000000
+TEXTS = 20000000
 
 # A whole sitting: `make sitting SECONDS_A_TRACK=3600`.
 SECONDS_A_TRACK = 600
@@ -22,7 +23,7 @@ SECONDS_A_TRACK = 600
 # Where `make install` puts things; with DESTDIR, below that folder.
 PREFIX ?= /usr/local
 
-.PHONY: run cases test kit generated format compare compare-long damaged-long lib desk install uninstall test-report sitting bench refusals clean
+.PHONY: run cases test kit generated format compare compare-long compare-texts damaged-long lib desk install uninstall test-report sitting bench refusals clean
 
 # A small example on the desk: three tones mixed to a track, checked against exact arithmetic. The program is left in dist/desk.
 run: desk
@@ -54,7 +55,8 @@ lib:
 format: lib
 	@tools/format
 
-# The scripts that judge and build, the library from C, C++ and Rust, the report in a browser, and the proved core against the independent emulator.
+# The scripts that judge and build, the library from C, C++ and Rust, the report in a browser, texts of Intel HEX against other tools, and the proved
+# core and readers against the independent ones.
 compare: format desk
 	@tests/gate
 	@tests/refusals
@@ -65,11 +67,15 @@ compare: format desk
 	@tests/first_commands
 	@$(FOR_X86_64) tests/install
 	@$(FOR_X86_64) tests/report target/report
+	@$(FOR_X86_64) tests/intel_hex dist
 	@cd host && $(CARGO) test --release
 	@cd host && $(CARGO) run --release --package compare
 
 compare-long: lib
 	@cd host && $(CARGO) run --release --package compare -- machines $(SEED) $(EVENTS)
+
+compare-texts: lib
+	@cd host && $(CARGO) run --release --package compare -- texts $(SEED) $(TEXTS)
 
 # The desk program.
 desk: lib
@@ -99,10 +105,11 @@ test-report: desk
 sitting: lib
 	@cd host && SITTING_SECONDS=$(SECONDS_A_TRACK) $(CARGO) test --release --package desk --test sitting -- --nocapture
 
-# Words a second, instructions a word and chips carried; callgrind counts the instructions.
+# Words a second, instructions a word and chips carried; callgrind counts the instructions. Texts beside srec_cat.
 ifeq ($(FOR_X86_64),)
 bench: lib
 	@command -v valgrind >/dev/null || apt-get install --yes --quiet valgrind >/dev/null
+	@command -v srec_cat >/dev/null || apt-get install --yes --quiet srecord >/dev/null
 	@cd host && $(CARGO) run --release --package speed
 else
 bench:
