@@ -3,7 +3,7 @@
 use std::fmt;
 use std::path::Path;
 
-/// A place in a script or record. The name of a file lives as long as the program, so that a place costs nothing to keep.
+/// A place in a script, record or image. The name of a file lives as long as the program, so that a place costs nothing to keep.
 #[derive(Clone, Copy, Debug, PartialEq, Eq)]
 pub struct Place {
     pub file: &'static Path,
@@ -14,7 +14,9 @@ pub struct Place {
 #[derive(Clone, Copy, Debug, PartialEq, Eq)]
 pub enum Spot {
     Line { line: u64, column: usize },
+    WholeLine(u64),
     Statement(u64),
+    WholeFile,
 }
 
 /// Keeps a file's name for the places in it.
@@ -24,9 +26,12 @@ pub fn named(file: &Path) -> &'static Path {
 
 impl fmt::Display for Place {
     fn fmt(&self, f: &mut fmt::Formatter) -> fmt::Result {
+        write!(f, "{}", self.file.display())?;
         match self.spot {
-            Spot::Line { line, column } => write!(f, "{}:{line}:{column}", self.file.display()),
-            Spot::Statement(number) => write!(f, "{}: statement {number}", self.file.display()),
+            Spot::Line { line, column } => write!(f, ":{line}:{column}"),
+            Spot::WholeLine(line) => write!(f, ":{line}"),
+            Spot::Statement(number) => write!(f, ": statement {number}"),
+            Spot::WholeFile => Ok(()),
         }
     }
 }

@@ -1,8 +1,8 @@
-//! Files that are written whole or not at all, and never over a file that is read.
+//! Files that are written whole or not at all, and never over a file that is read; and what is read of a file by its size or its beginning.
 
 use crate::fault::Fault;
 use std::fs::{self, File, OpenOptions};
-use std::io::{self, ErrorKind, Seek, SeekFrom, Write};
+use std::io::{self, BufRead, ErrorKind, Read, Seek, SeekFrom, Write};
 use std::os::unix::fs::MetadataExt;
 use std::path::{Path, PathBuf};
 
@@ -72,6 +72,27 @@ pub fn write_whole(path: &Path, bytes: &[u8]) -> Result<(), Fault> {
     let mut file = NewFile::create(path)?;
     file.write_all(bytes).map_err(|error| file.fault(&error))?;
     file.finish()
+}
+
+/// All bytes of an input, if there are at most so many; `file` is its name in faults, `expected` what never has more.
+pub fn read_at_most(most: u64, file: &Path, input: impl Read, expected: &str) -> Result<Vec<u8>, Fault> {
+    let mut bytes = Vec::new();
+    let read = input.take(most + 1).read_to_end(&mut bytes).map_err(|error| Fault::of_file(file, "read", &error))?;
+    match read as u64 > most {
+        true => Err(Fault::bad(format!("{}: more than {most} bytes: expected {expected}", file.display()))),
+        false => Ok(bytes),
+    }
+}
+
+/// What stands first in an input, which stays there to be read; nothing of an empty one.
+pub fn first_bytes(input: &mut impl BufRead) -> io::Result<&[u8]> {
+    loop {
+        match input.fill_buf() {
+            Err(error) if error.kind() == ErrorKind::Interrupted => continue,
+            Err(error) => return Err(error),
+            Ok(_) => return input.fill_buf(),
+        }
+    }
 }
 
 /// No file that is to be written is one that is read, or another that is written.

@@ -4,6 +4,7 @@ pub mod chip;
 pub mod commands;
 pub mod fault;
 pub mod files;
+pub mod images;
 pub mod numbers;
 pub mod output;
 pub mod progress;

@@ -1,7 +1,8 @@
-//! Damaged scripts, records and sound files: nothing panics, and what is accepted is sound. Some thousand by default, as many as DAMAGED
+//! Damaged scripts, records, images and sound files: nothing panics, and what is accepted is sound. Some thousand by default, as many as DAMAGED
 //! says in a long run (`make damaged-long`); the sequence is the same every time.
 
-use desk::fault::Spot;
+use desk::fault::{Fault, Spot};
+use desk::images::{load, Image};
 use desk::records::compact::{Reader, Writer};
 use desk::records::{self, Form};
 use desk::scripts::reader::read_text;
@@ -112,6 +113,90 @@ fn is_whole(record: &[u8]) -> bool {
             }
         }
     }
+}
+
+/// The image of the mixing program.
+const IMAGE: &[u8] = include_bytes!("../../../examples/intel_hex/mixing.hex");
+
+#[test]
+fn damaged_images_are_loaded_or_refused_with_what_is_wrong() {
+    let mut random = Random::new(0x77e1);
+    let (mut loaded, mut refused) = (0, [0; 5]);
+    for _ in 0..how_many() {
+        let text = damaged_image(&mut random);
+        match load(Image::Program, Path::new("damaged"), &text) {
+            Ok(words) => {
+                assert!(words == plainly_read(&text), "{}", text.escape_ascii());
+                loaded += 1;
+            }
+            Err(fault) => refused[explained(&text, &fault) - 12] += 1,
+        }
+        let _ = load(Image::Data, Path::new("damaged"), &text).map_err(|fault| explained(&text, &fault));
+    }
+    assert!(loaded > 0 && refused.iter().all(|count| *count > 0), "{loaded} were loaded and {refused:?} refused");
+}
+
+/// An image with hurts in one of its lines, or with lines that were taken out, doubled or exchanged; the check byte of a line that was hurt is
+/// made good one time in two, so that what comes behind it is reached.
+fn damaged_image(random: &mut Random) -> Vec<u8> {
+    let mut lines: Vec<Vec<u8>> = IMAGE.split_inclusive(|byte| *byte == b'\n').map(<[u8]>::to_vec).collect();
+    let (at, other) = (random.place(lines.len()), random.place(lines.len()));
+    match random.below(8) {
+        0 => drop(lines.remove(at)),
+        1 => lines.insert(other, lines[at].clone()),
+        2 => lines.swap(at, other),
+        3 => drop(lines.pop()),
+        4 => return damaged(random, IMAGE),
+        _ => {
+            lines[at] = damaged(random, &lines[at]);
+            if random.flag() {
+                make_good(&mut lines[at]);
+            }
+        }
+    }
+    lines.concat()
+}
+
+/// Gives a line the check byte of its other bytes.
+fn make_good(line: &mut [u8]) {
+    let Some(bytes) = bytes_of(line) else { return };
+    let Some((_, others)) = bytes.split_last() else { return };
+    let check = others.iter().fold(0u8, |check, byte| check.wrapping_sub(*byte));
+    let place = 1 + 2 * others.len();
+    line[place..place + 2].copy_from_slice(format!("{check:02X}").as_bytes());
+}
+
+/// The bytes that a line spells behind its first character.
+fn bytes_of(line: &[u8]) -> Option<Vec<u8>> {
+    let digits = std::str::from_utf8(line.get(1..)?).ok()?.trim_end();
+    (0..digits.len() / 2).map(|at| u8::from_str_radix(digits.get(2 * at..2 * at + 2)?, 16).ok()).collect()
+}
+
+/// The words of a text that is good.
+fn plainly_read(text: &[u8]) -> Vec<u32> {
+    let mut image = [0; 2048];
+    for record in text.split(|byte| *byte == b'\n').filter_map(bytes_of) {
+        if let [1..=255, high, low, 0, data @ .., _] = record.as_slice() {
+            let from = usize::from(*high) * 256 + usize::from(*low);
+            image[from..from + data.len()].copy_from_slice(data);
+        }
+    }
+    image.chunks_exact(4).map(|word| word.iter().rev().fold(0, |number, byte| number << 8 | u32::from(*byte))).collect()
+}
+
+/// The number of a refusal, which has its line within the text, says what is wrong, and shows the line.
+fn explained(text: &[u8], fault: &Fault) -> usize {
+    let lines = text.split_inclusive(|byte| *byte == b'\n').count() as u64;
+    match fault.place.map(|place| place.spot) {
+        Some(Spot::Line { line, column }) => assert!((1..=lines).contains(&line) && (1..=text.len() + 1).contains(&column), "{fault}"),
+        Some(Spot::WholeLine(line)) => assert!((1..=lines).contains(&line), "{fault}"),
+        Some(Spot::WholeFile) => assert!(text.is_empty(), "{fault}"),
+        other => panic!("{other:?}: {fault}"),
+    }
+    let (number, rest) = fault.message.strip_prefix("refusal ").and_then(|rest| rest.split_once(", ")).expect("a number");
+    let parts = if text.is_empty() { 2 } else { 3 };
+    assert!(rest.split(": ").count() >= parts, "what is wrong and the line: {fault}");
+    number.parse().expect("a number")
 }
 
 /// A sound file with a chunk that is none of ours, damaged; the header's size is made good one time in two, so that the chunks are reached.

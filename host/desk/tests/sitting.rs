@@ -3,6 +3,8 @@
 //! Two seconds each by default, as many as SITTING_SECONDS says (`make sitting` for ten minutes).
 
 use desk::chip::machine::Machine;
+use desk::scripts::given::Images;
+use desk::scripts::reader::Reader;
 use desk::sound::wav;
 use desk::tracks::prepared::prepared;
 use random::Random;
@@ -108,8 +110,8 @@ impl Sitting {
 
     /// What the trial desk sends for the four sources of its program.
     fn play_on_the_trial_desk(&self, track: u32) {
-        let machine =
-            prepared(&[self.path("channels.desk"), self.path("trial.desk")], &mut Vec::new()).expect("the scripts of the trial").machine;
+        let scripts = Reader::of_files(&[self.path("channels.desk"), self.path("trial.desk")]);
+        let machine = prepared(&Images::default(), scripts, &mut Vec::new()).expect("the scripts of the trial").machine;
         let mut trial = Trial::of(machine);
         let mut sources = SOURCES.map(|name| wav::open(&self.path(&format!("{name}.wav"))).expect("a source"));
         let file = BufWriter::new(File::create(self.path(&format!("track-{track}.wav"))).expect("a sound"));
@@ -230,7 +232,8 @@ fn measured(mut command: Command) -> (Output, u64, u64) {
 fn twelve_tracks_have_the_right_verdicts_in_one_command() {
     let sitting = made();
     let begin = std::time::Instant::now();
-    let (output, most, allowed) = measured(desk(&sitting.folder, "check-track --tracks evening.tracks --report evening.html --start 19:30:00"));
+    let (output, most, allowed) =
+        measured(desk(&sitting.folder, "check-track --tracks evening.tracks --report evening.html --start 19:30:00"));
     println!("{} seconds a track: checked in {:.1} s, at most {most} kB", seconds(), begin.elapsed().as_secs_f64());
     let (out, err) = (String::from_utf8_lossy(&output.stdout), String::from_utf8_lossy(&output.stderr));
     print!("{out}");

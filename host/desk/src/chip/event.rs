@@ -59,6 +59,11 @@ pub fn meaning(number: u8) -> &'static str {
         9 => "call, or interrupt taken, at depth 4",
         10 => "serial out with SORQ 0",
         11 => "a field is too wide",
+        12 => "bad character or length",
+        13 => "bad check byte",
+        14 => "record type",
+        15 => "address outside, given twice or missing",
+        16 => "no end record or text after it",
         _ => "no such number",
     }
 }

@@ -1,6 +1,8 @@
 //! The words behind a command: options begin with `-`, a lone `-` is a file, and behind `--` everything is.
 
 use crate::fault::Fault;
+use crate::files::is_standard;
+use std::path::{Path, PathBuf};
 
 pub struct Arguments<'a> {
     /// How the command is used, for messages.
@@ -46,6 +48,15 @@ impl<'a> Arguments<'a> {
             None => Ok(()),
             Some(_) => Err(self.bad(&format!("{option} a second time"))),
         }
+    }
+
+    /// Puts the file of an image into its place.
+    pub fn image(&mut self, option: &str, place: &mut Option<PathBuf>) -> Result<(), Fault> {
+        let file = self.value(option, "an Intel HEX file")?;
+        if is_standard(Path::new(file)) {
+            return Err(self.bad(&format!("{option} -: expected a file")));
+        }
+        self.once(place, option, PathBuf::from(file))
     }
 
     pub fn unknown(&self, option: &str) -> Fault {

@@ -5,6 +5,7 @@ use crate::fault::Fault;
 use crate::files::{self, NewFile};
 use crate::output::{tell, Output};
 use crate::report;
+use crate::scripts::given::Images;
 use crate::tracks::findings::Findings;
 use crate::tracks::list::{self, From, Track};
 use crate::tracks::mixer::MOST_SOURCES;
@@ -15,7 +16,7 @@ use crate::tracks::verdict::{sentence, Verdict};
 use std::io::Write;
 use std::path::{Path, PathBuf};
 
-const USE: &str = "expected `desk check-track RECORD..`, or `--program SCRIPT.. --in WAV.. --sent WAV`, or `--tracks LIST`";
+const USE: &str = "expected `desk check-track RECORD..`, or `--program FILE.. [--data FILE] --in WAV.. --sent WAV`, or `--tracks LIST`";
 
 struct Asked {
     tracks: Vec<Track>,
@@ -69,16 +70,17 @@ fn write_report((path, mut file): (&Path, NewFile), asked: &Asked, found: &[Find
 
 fn asked(arguments: &[String]) -> Result<Asked, Fault> {
     let mut tracks: Vec<Track> = Vec::new();
-    let (mut scripts, mut sources, mut sent) = (None, None, None);
+    let (mut scripts, mut data, mut sources, mut sent) = (None, None, None, None);
     let (mut list, mut report, mut start) = (None, None, None);
     let mut arguments = Arguments::new(USE, arguments);
     while let Some(argument) = arguments.next() {
         match argument {
             Argument::File(record) => tracks.push(Track { name: record.to_string(), from: From::Record(PathBuf::from(record)) }),
             Argument::Option(option @ "--program") => {
-                let files = paths(&mut arguments, option, "the scripts of the program")?;
+                let files = paths(&mut arguments, option, "the scripts or the image of the program")?;
                 arguments.once(&mut scripts, option, files)?;
             }
+            Argument::Option(option @ "--data") => arguments.image(option, &mut data)?,
             Argument::Option(option @ "--in") => {
                 let files = paths(&mut arguments, option, "the sounds of the sources")?;
                 if files.len() > MOST_SOURCES {
@@ -111,10 +113,11 @@ fn asked(arguments: &[String]) -> Result<Asked, Fault> {
         }
     }
     match (scripts, sources, sent) {
-        (None, None, None) => {}
+        (None, None, None) if data.is_none() => {}
         (Some(scripts), Some(sources), Some(sent)) => {
             let name = sent.display().to_string();
-            tracks.push(Track { name, from: From::Sounds(Sounds { scripts, sources, sent }) });
+            let images = Images { program: None, data };
+            tracks.push(Track { name, from: From::Sounds(Sounds { images, scripts, sources, sent }) });
         }
         _ => return Err(arguments.bad("--program, --in and --sent: expected all three")),
     }
@@ -149,7 +152,9 @@ fn standard_input_once(arguments: &Arguments, tracks: &[Track]) -> Result<(), Fa
 fn read_by(track: &Track) -> Vec<PathBuf> {
     match &track.from {
         From::Record(record) => vec![record.clone()],
-        From::Sounds(sounds) => sounds.scripts.iter().chain(&sounds.sources).chain([&sounds.sent]).cloned().collect(),
+        From::Sounds(Sounds { images, scripts, sources, sent }) => {
+            images.files().chain(scripts).chain(sources).chain([sent]).cloned().collect()
+        }
     }
 }
 

@@ -6,6 +6,8 @@ use crate::fault::Fault;
 use crate::files;
 use crate::numbers;
 use crate::output::Output;
+use crate::scripts::given::Images;
+use crate::scripts::reader::Reader;
 use crate::sound::levels;
 use crate::sound::wav::{self, Sound};
 use crate::tracks::prepared::prepared;
@@ -70,7 +72,7 @@ fn folder(arguments: &[String]) -> Result<&str, Fault> {
 fn written(folder: &Path) -> Result<Order, Fault> {
     fs::create_dir_all(folder).map_err(|error| Fault::of_file(folder, "make the folder", &error))?;
     let (track, record) = (folder.join("track.wav"), Some(folder.join("track.record")));
-    let mut order = Order { scripts: Vec::new(), sources: Vec::new(), track, record };
+    let mut order = Order { images: Images::default(), scripts: Vec::new(), sources: Vec::new(), track, record };
     for tone in &TONES {
         order.sources.push(written_file(folder, tone.file, &wav::bytes(&sound(tone)))?);
     }
@@ -99,7 +101,7 @@ fn read(file: &Path) -> Result<Sound, Fault> {
 /// The sources, their gains and the track, all as they stand in the files.
 fn read_back(order: &Order) -> Result<(Vec<Sound>, Vec<i16>, Sound), Fault> {
     let sources = order.sources.iter().map(|file| read(file)).collect::<Result<Vec<Sound>, Fault>>()?;
-    let preset = prepared(&order.scripts, &mut Vec::new())?.machine;
+    let preset = prepared(&order.images, Reader::of_files(&order.scripts), &mut Vec::new())?.machine;
     let gains = preset.ram.iter().take(sources.len()).map(|gain| *gain as i16).collect();
     Ok((sources, gains, read(&order.track)?))
 }

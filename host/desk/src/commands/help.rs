@@ -25,21 +25,28 @@ Example:
 ";
 
 const RUN: &str = "\
-desk run [--quiet | --json] SCRIPT
+desk run [--quiet | --json] [--program FILE] [--data FILE] SCRIPT
 
 Plays a script on the proved core; `-` reads it from standard input. Each event prints its reply: the number
 with its meaning, the words done, the value. The first expectation that does not hold ends the run with
 status 1, and so does an event that is refused where no `reply` behind it expects that. A record is a script
 too, in text or in the compact form.
 
-  --quiet   print failures only
-  --json    print one object a reply
+  --quiet          print failures only
+  --json           print one object a reply
+  --program FILE   the program, an image in Intel HEX, given before the script's own statements
+  --data FILE      the data ROM, in the same way
+
+An image has record types 00 and 01, every address once, low bytes first (word n from address 4n on, cell n from
+2n on), and an end record last. It is loaded whole, or refused with its line and what is wrong there.
 
 Statements, one a line, in small letters or capitals; # begins a comment; 1234H is hexadecimal, 1234 decimal;
 a name with spaces stands in \"quotes\":
 
   program ADDRESS: WORD ..          instruction words from an address on; each address is given once
+  program FILE                      all of them: an image in Intel HEX, beside this script
   rom ADDRESS: CELL ..              data ROM cells
+  data FILE                         all of them: an image in Intel HEX, beside this script
   ram ADDRESS: WORD ..              RAM cells
   patch program | rom | ram ..      the same, over what was given before
   set REGISTER VALUE                PC STACK0 .. STACK3 DEPTH A B K L TR DR SI SO DP RP SR SIACK SOACK SORQ,
@@ -61,13 +68,15 @@ Example:
 ";
 
 const TRACE: &str = "\
-desk trace [--from N] [--count N] SCRIPT
+desk trace [--from N] [--count N] [--program FILE] [--data FILE] SCRIPT
 
 Plays and judges a script as `desk run` does, word by word, and prints each word as it finishes: its address,
 the word, its fields in the manual's mnemonics, and only what changed. This is how a wrong channel map is found.
 
-  --from N    print nothing of the first N words
-  --count N   print N words; what comes behind them is played and judged all the same
+  --from N         print nothing of the first N words
+  --count N        print N words; what comes behind them is played and judged all the same
+  --program FILE   the program, an image in Intel HEX, given before the script's own statements
+  --data FILE      the data ROM, in the same way
 
 N may be hexadecimal, as 14H; a script of - is standard input.
 
@@ -77,15 +86,17 @@ Example:
 
 const CHECK_TRACK: &str = "\
 desk check-track RECORD..
-desk check-track --program SCRIPT.. --in WAV.. --sent WAV
+desk check-track --program FILE.. [--data FILE] --in WAV.. --sent WAV
 desk check-track --tracks LIST
 
 Gives the proved core what the desk was given and holds every word that the desk sent against what the chip
 would have sent. A record has the events; with sound files the sources go through the program as in `desk mix`.
-A list has a line a track, paths relative to it:
+A file of the program is a script, or an image in Intel HEX, which begins with a colon; `data` is the image of the
+data ROM. A list has a line a track, paths relative to it:
 
   track English record english.record
   track \"Channel 2\" program mixing.desk preset.desk in booth.wav floor.wav relay.wav sent channel-2.wav
+  track German program mixing.hex gains.desk data rom.hex in booth.wav floor.wav relay.wav sent german.wav
 
   --report FILE.html   a page for the coordinator: which track is wrong, since when, which source is on it
   --start HH:MM:SS     the time of day of the first sample
@@ -97,7 +108,7 @@ One line a track, and a last line that counts them:
   unreadable   a file is damaged, altered or missing
 Status 0 if all agree, 2 if one is unreadable, else 1.
 
-A record is a script with the program, the data and the preset (or `include` lines that bring them), then the
+A record is a script with the program, the data and the preset (or lines that name their files), then the
 events in order, after each `out` the word that was sent, and at the end the number of samples:
 
   include channels.desk
@@ -114,7 +125,7 @@ Example:
 ";
 
 const MIX: &str = "\
-desk mix SCRIPT.. --in WAV.. --out WAV [--record FILE]
+desk mix [--program FILE] [--data FILE] SCRIPT.. --in WAV.. --out WAV [--record FILE]
 
 Runs one sample of each source through the serial port for every sample of the track: each goes in, the program
 runs until it has taken it, and after the last until it sends. The scripts bring the program, the data and the
@@ -122,7 +133,9 @@ preset; events in them are played once, at the start. One to sixteen sound files
 one rate; the shorter ones end in silence. The track is written whole or not at all, and never over a file that
 is read. A sound of `-` is standard input or output.
 
-  --record FILE   write the record of the mix too, in the compact form
+  --program FILE   the program, an image in Intel HEX, given before the scripts; with it no script is needed
+  --data FILE      the data ROM, an image in Intel HEX
+  --record FILE    write the record of the mix too, in the compact form
 
 Example, in the folder that `desk example` makes:
   $ desk mix mixing.desk preset.desk --in booth.wav floor.wav relay.wav --out again.wav
@@ -132,8 +145,8 @@ const CONVERT: &str = "\
 desk convert RECORD OTHER
 
 Writes a record in its other form: a text becomes a compact record, a compact record a text. No statement is
-lost; what a text includes stands in it afterwards, comments do not. `-` is standard input or output. A compact
-record notices when it is cut or altered: docs/RECORDS.md describes it.
+lost; the scripts and images that a text names stand in it afterwards, comments do not. `-` is standard input or
+output. A compact record notices when it is cut or altered: docs/RECORDS.md describes it.
 
 Example, in the folder that `desk example` makes:
   $ desk convert track.record -

@@ -7,6 +7,8 @@ use crate::files::{self, is_standard, NewFile};
 use crate::output::{tell, Output};
 use crate::progress::{Meter, Progress};
 use crate::records::compact;
+use crate::scripts::given::Images;
+use crate::scripts::reader::Reader;
 use crate::scripts::statement::Action;
 use crate::sound::levels;
 use crate::sound::wav;
@@ -19,10 +21,11 @@ use bemulatsho::kind;
 use std::io::{self, BufWriter, Seek, SeekFrom, Write};
 use std::path::{Path, PathBuf};
 
-const USE: &str = "expected `desk mix SCRIPT.. --in WAV.. --out WAV [--record FILE]`; see `desk help mix`";
+const USE: &str = "expected `desk mix [--program FILE] [--data FILE] SCRIPT.. --in WAV.. --out WAV [--record FILE]`; see `desk help mix`";
 
-/// What is to be mixed: the scripts that prepare the machine, the sources in their order, where the track goes, and its record.
+/// What is to be mixed: the images and the scripts that prepare the machine, the sources in their order, where the track goes, and its record.
 pub struct Order {
+    pub images: Images,
     pub scripts: Vec<PathBuf>,
     pub sources: Vec<PathBuf>,
     pub track: PathBuf,
@@ -44,9 +47,12 @@ pub fn command(arguments: &[String]) -> Result<(), Fault> {
 
 fn order(arguments: &[String]) -> Result<Order, Fault> {
     let (mut scripts, mut sources, mut track, mut record) = (Vec::new(), None, None, None);
+    let mut images = Images::default();
     let mut arguments = Arguments::new(USE, arguments);
     while let Some(argument) = arguments.next() {
         match argument {
+            Argument::Option(option @ "--program") => arguments.image(option, &mut images.program)?,
+            Argument::Option(option @ "--data") => arguments.image(option, &mut images.data)?,
             Argument::Option(option @ "--in") => {
                 let files: Vec<PathBuf> = arguments.files().into_iter().map(PathBuf::from).collect();
                 if files.is_empty() || files.len() > MOST_SOURCES {
@@ -69,15 +75,15 @@ fn order(arguments: &[String]) -> Result<Order, Fault> {
             Argument::File(script) => scripts.push(PathBuf::from(script)),
         }
     }
-    if scripts.is_empty() {
-        return Err(arguments.bad("no script: expected one or more before --in"));
+    if scripts.is_empty() && images.program.is_none() {
+        return Err(arguments.bad("no script: expected one or more before --in, or --program"));
     }
     let sources = sources.ok_or_else(|| arguments.bad("no --in: expected the files of the sources"))?;
     let track = track.ok_or_else(|| arguments.bad("no --out: expected the file of the track"))?;
     if sources.iter().filter(|file| is_standard(file)).count() > 1 {
         return Err(arguments.bad("- a second time: standard input can be read once"));
     }
-    Ok(Order { scripts, sources, track, record })
+    Ok(Order { images, scripts, sources, track, record })
 }
 
 /// What a track is like, in numbers.
@@ -93,7 +99,7 @@ pub struct Mixed {
 /// Mixes and writes the track, and its record.
 pub fn mix(order: &Order) -> Result<Mixed, Fault> {
     let mut inputs = order.sources.clone();
-    let prepared = prepared(&order.scripts, &mut inputs)?;
+    let prepared = prepared(&order.images, Reader::of_files(&order.scripts), &mut inputs)?;
     let outputs: Vec<&Path> =
         [&order.track].into_iter().chain(&order.record).map(PathBuf::as_path).filter(|file| !is_standard(file)).collect();
     files::replace_no_input(&outputs, &inputs)?;

@@ -6,11 +6,12 @@ use crate::commands::arguments::{Argument, Arguments};
 use crate::commands::script::{self, Statements};
 use crate::fault::{Fault, Place, Spot};
 use crate::output::Output;
+use crate::scripts::given::Images;
 use crate::scripts::player::{Played, Player};
 use crate::scripts::statement::Action;
 use bemulatsho::Reply;
 
-const USE: &str = "expected `desk run [--quiet | --json] SCRIPT`, where - is standard input";
+const USE: &str = "expected `desk run [--quiet | --json] [--program FILE] [--data FILE] SCRIPT`, where a script of - is standard input";
 
 #[derive(Clone, Copy, Debug, PartialEq, Eq)]
 enum Print {
@@ -20,22 +21,30 @@ enum Print {
 }
 
 pub fn command(arguments: &[String]) -> Result<(), Fault> {
-    let (script, print) = asked(arguments)?;
-    let statements = script::checked(script, |_| {})?;
+    let Asked { script, images, print } = asked(arguments)?;
+    let statements = script::checked(script, &images, |_| {})?;
     let mut output = Output::new();
     let played = play(statements, print, &mut output);
     let printed = output.flush();
     played.and(printed)
 }
 
-/// The script's name and how to print.
-fn asked(arguments: &[String]) -> Result<(&str, Print), Fault> {
+struct Asked<'a> {
+    script: &'a str,
+    images: Images,
+    print: Print,
+}
+
+fn asked(arguments: &[String]) -> Result<Asked<'_>, Fault> {
     let (mut script, mut quiet, mut json) = (None, false, false);
+    let mut images = Images::default();
     let mut arguments = Arguments::new(USE, arguments);
     while let Some(argument) = arguments.next() {
         match argument {
             Argument::Option("--quiet") => quiet = true,
             Argument::Option("--json") => json = true,
+            Argument::Option(option @ "--program") => arguments.image(option, &mut images.program)?,
+            Argument::Option(option @ "--data") => arguments.image(option, &mut images.data)?,
             Argument::Option(option) => return Err(arguments.unknown(option)),
             Argument::File(second) if script.is_some() => return Err(arguments.bad(&format!("{second:?} is a second script"))),
             Argument::File(first) => script = Some(first),
@@ -47,7 +56,7 @@ fn asked(arguments: &[String]) -> Result<(&str, Print), Fault> {
         (false, true) => Print::Json,
         (false, false) => Print::Lines,
     };
-    Ok((script.ok_or_else(|| arguments.bad("no script"))?, print))
+    Ok(Asked { script: script.ok_or_else(|| arguments.bad("no script"))?, images, print })
 }
 
 fn play(statements: Statements, print: Print, output: &mut Output) -> Result<(), Fault> {
@@ -73,12 +82,13 @@ fn play(statements: Statements, print: Print, output: &mut Output) -> Result<(),
 
 fn json(answered: &Answered, place: Place) -> String {
     let Reply { number, words, value } = answered.reply;
-    let (at, count) = match place.spot {
-        Spot::Line { line, .. } => ("line", line),
-        Spot::Statement(number) => ("statement", number),
+    let at = match place.spot {
+        Spot::Line { line, .. } | Spot::WholeLine(line) => format!("\"line\":{line},"),
+        Spot::Statement(number) => format!("\"statement\":{number},"),
+        Spot::WholeFile => String::new(),
     };
     format!(
-        "{{\"file\":{},\"{at}\":{count},\"event\":{},\"kind\":{},\"given\":{},\
+        "{{\"file\":{},{at}\"event\":{},\"kind\":{},\"given\":{},\
          \"number\":{number},\"meaning\":{},\"words\":{words},\"value\":{value}}}",
         quoted(&place.file.display().to_string()),
         quoted(&answered.event.name().map_or_else(|| format!("event {}", answered.event.kind), str::to_string)),

@@ -9,16 +9,18 @@ use crate::commands::script::{self, Statements};
 use crate::fault::{Fault, Place};
 use crate::numbers;
 use crate::output::Output;
+use crate::scripts::given::Images;
 use crate::scripts::player::Player;
 use crate::scripts::statement::{Action, Fill};
 use bemulatsho::{kind, Reply};
 
-const USE: &str = "expected `desk trace [--from N] [--count N] SCRIPT`, where N is a number of words and - is standard input";
+const USE: &str = "expected `desk trace [--from N] [--count N] [--program FILE] [--data FILE] SCRIPT`, \
+                   where N is a number of words and a script of - is standard input";
 
 pub fn command(arguments: &[String]) -> Result<(), Fault> {
     let asked = asked(arguments)?;
     let mut widest = 0;
-    let statements = script::checked(&asked.script, |statement| {
+    let statements = script::checked(&asked.script, &asked.images, |statement| {
         if let Action::Fill(Fill { memory: Memory::Program, values, .. }) = &statement.action {
             widest = values.iter().map(|word| mnemonics::line(*word).len()).fold(widest, usize::max);
         }
@@ -31,6 +33,7 @@ pub fn command(arguments: &[String]) -> Result<(), Fault> {
 
 struct Asked {
     script: String,
+    images: Images,
     /// Words to pass over.
     from: u64,
     /// Words to print; all if none is said.
@@ -39,18 +42,21 @@ struct Asked {
 
 fn asked(arguments: &[String]) -> Result<Asked, Fault> {
     let (mut script, mut from, mut count) = (None, None, None);
+    let mut images = Images::default();
     let mut arguments = Arguments::new(USE, arguments);
     while let Some(argument) = arguments.next() {
         match argument {
             Argument::Option("--from") => take_number(&mut arguments, "--from", &mut from)?,
             Argument::Option("--count") => take_number(&mut arguments, "--count", &mut count)?,
+            Argument::Option(option @ "--program") => arguments.image(option, &mut images.program)?,
+            Argument::Option(option @ "--data") => arguments.image(option, &mut images.data)?,
             Argument::Option(option) => return Err(arguments.unknown(option)),
             Argument::File(second) if script.is_some() => return Err(arguments.bad(&format!("{second:?} is a second script"))),
             Argument::File(first) => script = Some(first.to_string()),
         }
     }
     let script = script.ok_or_else(|| arguments.bad("no script"))?;
-    Ok(Asked { script, from: from.unwrap_or(0), count })
+    Ok(Asked { script, images, from: from.unwrap_or(0), count })
 }
 
 fn take_number(arguments: &mut Arguments, option: &str, number: &mut Option<u64>) -> Result<(), Fault> {

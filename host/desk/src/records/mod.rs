@@ -16,12 +16,12 @@ mod writer;
 mod tests;
 
 use crate::fault::{Fault, Place};
-use crate::files::is_standard;
+use crate::files::{first_bytes, is_standard};
 use crate::scripts;
 use crate::scripts::statement::Statement;
 use compact::Stop;
 use std::fs::File;
-use std::io::{self, BufRead, BufReader, ErrorKind};
+use std::io::{self, BufRead, BufReader};
 use std::path::{Path, PathBuf};
 pub use turns::Common;
 
@@ -72,6 +72,14 @@ impl Record {
         Ok(Record { file: None, statements })
     }
 
+    /// Sees what was given before the record's first statement.
+    pub fn given(&mut self, before: &[Statement]) -> Result<(), Fault> {
+        match &mut self.statements {
+            Statements::Text { reader, .. } => reader.given(before),
+            Statements::Compact(reader) => reader.given(before),
+        }
+    }
+
     pub fn form(&self) -> Form {
         match self.statements {
             Statements::Text { .. } => Form::Text,
@@ -109,23 +117,12 @@ impl Record {
         }
     }
 
-    /// Every file that was read so far: the record, and what a text includes.
+    /// Every file that was read so far: the record, and the scripts and images that a text names.
     pub fn files(&self) -> Vec<PathBuf> {
-        let included = match &self.statements {
+        let named = match &self.statements {
             Statements::Text { reader, .. } => reader.files(),
             Statements::Compact(_) => &[],
         };
-        self.file.iter().chain(included).cloned().collect()
-    }
-}
-
-/// What stands first in an input, which stays there to be read; nothing of an empty one.
-fn first_bytes(input: &mut Box<dyn BufRead + Send>) -> io::Result<&[u8]> {
-    loop {
-        match input.fill_buf() {
-            Err(error) if error.kind() == ErrorKind::Interrupted => continue,
-            Err(error) => return Err(error),
-            Ok(_) => return input.fill_buf(),
-        }
+        self.file.iter().chain(named).cloned().collect()
     }
 }

@@ -56,6 +56,11 @@ impl<R: Read> Reader<R> {
         Reader { input, file, crc: Crc::new(), bytes: 0, turns, order, statements: 0, sent: 0, state: State::New }
     }
 
+    /// Sees what was given before the record's first statement.
+    pub fn given(&mut self, before: &[Statement]) -> Result<(), Fault> {
+        before.iter().try_for_each(|statement| self.order.see(&statement.action, statement.place))
+    }
+
     /// How many bytes were read so far.
     pub fn bytes(&self) -> u64 {
         self.bytes

@@ -342,7 +342,7 @@ fn what_a_text_may_not_say_is_refused() {
         let payload = [&[1, 2, 10, 9][..], b"samples 0", plain].concat();
         assert_eq!(message(&signed(&[(b'T', payload)])), ended);
     }
-    for line in ["include x", "runn 5", "", "# run 5", "run 5 6", "program 0:", "show\nshow"] {
+    for line in ["include x", "program x.hex", "data x.hex", "runn 5", "", "# run 5", "run 5 6", "program 0:", "show\nshow"] {
         assert!(refused(&[line]).starts_with("x: at byte 12: a block with "), "{line:?}: {}", refused(&[line]));
     }
 }

@@ -1,5 +1,6 @@
 //! Scripts: what a statement says, how it is read from a text, and how it is carried out and judged.
 
+pub mod given;
 pub mod nearest;
 pub mod parse;
 pub mod player;

@@ -4,10 +4,40 @@ use crate::chip::event::Event;
 use crate::chip::machine::Memory;
 use crate::chip::registers::{named, Register, REGISTERS};
 use crate::fault::Fault;
+use crate::images::Image;
 use crate::numbers;
 use crate::scripts::nearest::nearest;
 use crate::scripts::statement::{Action, Fill, NAMES};
 use crate::scripts::words::{Token, Words};
+
+const ADDRESS: &str = "an address and a colon, as 01FH:";
+const ADDRESS_OR_FILE: &str = "an address and a colon, as 01FH:, or the name of an Intel HEX file";
+
+/// The image that a statement loads and the name of its file, if it is one that does; its line ends behind them.
+pub fn image(first: &Token, words: &mut Words) -> Result<Option<(Image, Token)>, Fault> {
+    if first.is("data") {
+        let name = words.expect("the name of an Intel HEX file")?;
+        if is_address(&name) {
+            return Err(name.wrong("the name of an Intel HEX file; cells from an address on stand in `rom`"));
+        }
+        words.end()?;
+        return Ok(Some((Image::Data, name)));
+    }
+    if !first.is("program") || words.peek().is_none_or(is_address) {
+        return Ok(None);
+    }
+    let name = words.expect(ADDRESS_OR_FILE)?;
+    let is_number = !name.quoted && numbers::parse_long(&name.text).is_some();
+    match is_number || words.peek().is_some() {
+        true => Err(name.wrong(ADDRESS_OR_FILE)),
+        false => Ok(Some((Image::Program, name))),
+    }
+}
+
+/// Whether a word is to be an address, and not a file.
+fn is_address(token: &Token) -> bool {
+    !token.quoted && token.text.ends_with(':')
+}
 
 /// The statement that begins with this word; its line ends behind it.
 pub fn statement(first: &Token, words: &mut Words) -> Result<Action, Fault> {
@@ -56,10 +86,10 @@ fn memory(token: &Token) -> Option<Memory> {
 }
 
 fn fill(memory: Memory, patch: bool, words: &mut Words) -> Result<Action, Fault> {
-    const ADDRESS: &str = "an address and a colon, as 01FH:";
-    let address = words.expect(ADDRESS)?;
-    let digits = address.text.strip_suffix(':').ok_or_else(|| address.wrong(ADDRESS))?;
-    let from = numbers::parse(digits).ok_or_else(|| address.wrong(ADDRESS))? as usize;
+    let expected = if memory == Memory::Program && !patch { ADDRESS_OR_FILE } else { ADDRESS };
+    let address = words.expect(expected)?;
+    let digits = address.text.strip_suffix(':').ok_or_else(|| address.wrong(expected))?;
+    let from = numbers::parse(digits).ok_or_else(|| address.wrong(expected))? as usize;
     if from >= memory.length() {
         return Err(address.wrong(&format!("an address below {:X}H", memory.length())));
     }

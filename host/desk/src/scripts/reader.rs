@@ -1,9 +1,12 @@
 //! Reads scripts as a stream of statements, each with its place, or the first fault. However long a script is, one line of it is held.
 
 use crate::fault::{self, Fault, Place, Spot};
+use crate::files::{first_bytes, is_standard};
+use crate::images::{self, Image};
+use crate::scripts::given;
 use crate::scripts::parse;
 use crate::scripts::seen::Seen;
-use crate::scripts::statement::Statement;
+use crate::scripts::statement::{Action, Statement};
 use crate::scripts::words::{Token, Words};
 use std::fs::File;
 use std::io::{self, BufRead, BufReader};
@@ -22,8 +25,10 @@ const BYTE_ORDER_MARK: &[u8] = b"\xef\xbb\xbf";
 pub struct Reader {
     /// The scripts that are open, the innermost last.
     open: Vec<Open>,
-    /// The scripts that come after these, the next one last.
+    /// The files that come after these, the next one last.
     next: Vec<PathBuf>,
+    /// One of them may be an image of the program.
+    images: bool,
     seen: Seen,
     /// Every file that was read.
     files: Vec<PathBuf>,
@@ -51,6 +56,11 @@ impl Reader {
         Reader { next: paths.iter().rev().cloned().collect(), ..Reader::empty() }
     }
 
+    /// The same, where a file that begins as an image does is one of the program.
+    pub fn of_files_or_images(paths: &[PathBuf]) -> Reader {
+        Reader { images: true, ..Reader::of_files(paths) }
+    }
+
     pub fn of_input(file: &Path, input: Box<dyn BufRead + Send>) -> Reader {
         let mut reader = Reader::empty();
         reader.open.push(Open { file: fault::named(file), input, line: 0 });
@@ -58,7 +68,13 @@ impl Reader {
     }
 
     fn empty() -> Reader {
-        Reader { open: Vec::new(), next: Vec::new(), seen: Seen::default(), files: Vec::new(), included: 0, bytes: 0, failed: false }
+        let (open, next, files) = (Vec::new(), Vec::new(), Vec::new());
+        Reader { open, next, images: false, seen: Seen::default(), files, included: 0, bytes: 0, failed: false }
+    }
+
+    /// Sees what was given before the first statement.
+    pub fn given(&mut self, before: &[Statement]) -> Result<(), Fault> {
+        before.iter().try_for_each(|statement| self.seen.see(&statement.action, statement.place))
     }
 
     /// Every file that was read so far.
@@ -71,22 +87,38 @@ impl Reader {
         self.bytes
     }
 
-    fn open_file(&mut self, path: &Path) -> Result<(), Fault> {
+    fn opened(&mut self, path: &Path) -> Result<BufReader<File>, Fault> {
         let input = File::open(path).map_err(|error| Fault::of_file(path, "read", &error))?;
         self.files.push(path.to_path_buf());
-        self.open.push(Open { file: fault::named(path), input: Box::new(BufReader::with_capacity(1 << 16, input)), line: 0 });
-        Ok(())
+        Ok(BufReader::with_capacity(1 << 16, input))
+    }
+
+    fn begin(&mut self, script: &Path, input: BufReader<File>) {
+        self.open.push(Open { file: fault::named(script), input: Box::new(input), line: 0 });
+    }
+
+    /// Opens the next of several files; an image is one statement.
+    fn open_next(&mut self, path: &Path) -> Result<Option<Statement>, Fault> {
+        let mut input = self.opened(path)?;
+        let first = first_bytes(&mut input).map_err(|error| Fault::of_file(path, "read", &error))?.first();
+        if !self.images || first != Some(&images::FIRST) {
+            self.begin(path, input);
+            return Ok(None);
+        }
+        let image = given::statement(Image::Program, path, input)?;
+        self.seen.see(&image.action, image.place)?;
+        Ok(Some(image))
     }
 
     /// The next statement; none when every script has ended.
     fn statement(&mut self) -> Result<Option<Statement>, Fault> {
         loop {
             let Some(open) = self.open.last_mut() else {
-                match self.next.pop() {
-                    Some(path) => self.open_file(&path)?,
-                    None => return Ok(None),
+                let Some(path) = self.next.pop() else { return Ok(None) };
+                match self.open_next(&path)? {
+                    Some(image) => return Ok(Some(image)),
+                    None => continue,
                 }
-                continue;
             };
             let Some(line) = open.line(&mut self.bytes)? else {
                 self.open.pop();
@@ -101,7 +133,13 @@ impl Reader {
                 self.include(&name)?;
                 continue;
             }
-            let action = parse::statement(&first, &mut words)?;
+            let action = match parse::image(&first, &mut words)? {
+                Some((image, name)) => {
+                    self.seen.not_ended(first.place)?;
+                    self.image(image, &name)?
+                }
+                None => parse::statement(&first, &mut words)?,
+            };
             self.seen.see(&action, first.place)?;
             return Ok(Some(Statement { place: first.place, action }));
         }
@@ -115,9 +153,26 @@ impl Reader {
             return Err(Fault::bad_at(name.place, format!("more than {MOST} scripts are included")));
         }
         self.included += 1;
-        let folder = name.place.file.parent().unwrap_or(Path::new(""));
-        self.open_file(&folder.join(&name.text)).map_err(|fault| Fault::bad_at(name.place, fault.message))
+        let path = beside(name);
+        let input = self.opened(&path).map_err(|fault| Fault::bad_at(name.place, fault.message))?;
+        self.begin(&path, input);
+        Ok(())
     }
+
+    /// Loads the image that a statement names. What is wrong with it has the statement's place, and behind it its own.
+    fn image(&mut self, image: Image, name: &Token) -> Result<Action, Fault> {
+        if is_standard(Path::new(&name.text)) {
+            return Err(name.wrong("a file"));
+        }
+        let path = beside(name);
+        let filled = self.opened(&path).and_then(|input| given::filled(image, &path, input));
+        filled.map_err(|fault| Fault::bad_at(name.place, fault.to_string()))
+    }
+}
+
+/// The file of a name, in the folder of the script that has it.
+fn beside(name: &Token) -> PathBuf {
+    name.place.file.parent().unwrap_or(Path::new("")).join(&name.text)
 }
 
 impl Iterator for Reader {
@@ -151,6 +206,9 @@ impl Open {
         }
         if self.line == 1 && line.starts_with(BYTE_ORDER_MARK) {
             line.drain(..BYTE_ORDER_MARK.len());
+        }
+        if self.line == 1 && line.first() == Some(&images::FIRST) {
+            return Err(Fault::bad_at(place(1), "this is Intel HEX: give it with --program or --data, or name it in a script"));
         }
         while line.last().is_some_and(|byte| matches!(byte, b'\n' | b'\r')) {
             line.pop();

@@ -3,7 +3,9 @@
 //! ```text
 //! include FILE                  the statements of another script, beside this one
 //! program ADDRESS: WORD ..      instruction words from an address on
+//! program FILE                  all of them: an image in Intel HEX, beside this script
 //! rom ADDRESS: CELL ..          data ROM cells
+//! data FILE                     all of them: an image in Intel HEX, beside this script
 //! ram ADDRESS: WORD ..          RAM cells
 //! patch program|rom|ram ..      the same over what was given before
 //! set REGISTER VALUE            a register, flag or mark by its name
@@ -26,9 +28,10 @@ use crate::fault::Place;
 use std::fmt;
 
 /// The names that a statement may begin with, for messages.
-pub const NAMES: [&str; 22] = [
+pub const NAMES: [&str; 23] = [
     "include",
     "program",
+    "data",
     "rom",
     "ram",
     "patch",

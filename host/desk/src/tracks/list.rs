@@ -2,16 +2,18 @@
 //!
 //! ```text
 //! track NAME record FILE
-//! track NAME program SCRIPT .. in WAV .. sent WAV
+//! track NAME program FILE .. [data FILE] in WAV .. sent WAV
 //! ```
+//!
+//! A file of the program is a script or an image in Intel HEX.
 
 use crate::fault::{self, Fault};
-use crate::files::is_standard;
+use crate::files::{is_standard, read_at_most};
+use crate::scripts::given::Images;
 use crate::scripts::words::{Token, Words};
 use crate::tracks::mixer::MOST_SOURCES;
 use crate::tracks::played::Sounds;
 use std::fs::File;
-use std::io::Read;
 use std::path::{Path, PathBuf};
 
 /// Most tracks of a list, and most bytes of it.
@@ -44,11 +46,8 @@ pub fn read(list: &Path) -> Result<Vec<Track>, Fault> {
     if is_standard(list) {
         return Err(Fault::bad("- as the list of tracks: expected a file, whose folder has the recordings"));
     }
-    let mut text = Vec::new();
-    let read = File::open(list).and_then(|file| file.take(LARGEST + 1).read_to_end(&mut text));
-    if read.map_err(|error| Fault::of_file(list, "read", &error))? as u64 > LARGEST {
-        return Err(Fault::bad(format!("{}: more than {LARGEST} bytes: expected a list of tracks", list.display())));
-    }
+    let file = File::open(list).map_err(|error| Fault::of_file(list, "read", &error))?;
+    let text = read_at_most(LARGEST, list, file, "a list of tracks")?;
     let text = String::from_utf8(text).map_err(|_| Fault::bad(format!("{}: bytes that are no text: expected UTF-8", list.display())))?;
     parse(list, &text)
 }
@@ -61,7 +60,7 @@ fn parse(list: &Path, text: &str) -> Result<Vec<Track>, Fault> {
         let mut words = Words::new(file, line, text)?;
         let Some(first) = words.next() else { continue };
         if !first.is("track") {
-            return Err(first.wrong("`track NAME record FILE` or `track NAME program SCRIPT .. in WAV .. sent WAV`"));
+            return Err(first.wrong("`track NAME record FILE` or `track NAME program FILE .. [data FILE] in WAV .. sent WAV`"));
         }
         let name = words.expect("the name of the track")?;
         if tracks.iter().any(|track| track.name == name.text) {
@@ -93,14 +92,24 @@ fn from(folder: &Path, words: &mut Words) -> Result<From, Fault> {
     if !form.is("program") {
         return Err(form.wrong("`record` or `program`"));
     }
-    let (scripts, _) = files(folder, words, "in")?;
-    let (sources, last) = files(folder, words, "sent")?;
+    let (scripts, behind) = files(folder, words, &["data", "in"])?;
+    let data = if behind.is("data") { Some(data(folder, words)?) } else { None };
+    let (sources, last) = files(folder, words, &["sent"])?;
     if sources.len() > MOST_SOURCES {
         return Err(last.wrong(&format!("at most {MOST_SOURCES} sources before it")));
     }
     let sent = words.expect("the sound that was sent")?;
     words.end()?;
-    Ok(From::Sounds(Sounds { scripts, sources, sent: beside(folder, sent)? }))
+    Ok(From::Sounds(Sounds { images: Images { program: None, data }, scripts, sources, sent: beside(folder, sent)? }))
+}
+
+/// The image of the data ROM, up to the sources.
+fn data(folder: &Path, words: &mut Words) -> Result<PathBuf, Fault> {
+    let file = beside(folder, words.expect("the image of the data ROM")?)?;
+    match words.expect("`in`")? {
+        word if word.is("in") => Ok(file),
+        other => Err(other.wrong("`in`")),
+    }
 }
 
 /// A file of the list's folder; standard input has no place in a list.
@@ -111,12 +120,12 @@ fn beside(folder: &Path, name: Token) -> Result<PathBuf, Fault> {
     Ok(folder.join(name.text))
 }
 
-/// The files up to a word, at least one.
-fn files(folder: &Path, words: &mut Words, end: &str) -> Result<(Vec<PathBuf>, Token), Fault> {
+/// The files up to one of these words, at least one.
+fn files(folder: &Path, words: &mut Words, ends: &[&str]) -> Result<(Vec<PathBuf>, Token), Fault> {
     let mut files = Vec::new();
     loop {
-        let token = words.expect(&format!("a file, or `{end}`"))?;
-        if !token.is(end) {
+        let token = words.expect(&format!("a file, or `{}`", ends.join("` or `")))?;
+        if !ends.iter().any(|end| token.is(end)) {
             files.push(beside(folder, token)?);
         } else if files.is_empty() {
             return Err(token.wrong("a file before it"));
@@ -142,11 +151,26 @@ mod tests {
         let path = |name: &str| Path::new("evening").join(name);
         assert_eq!(tracks[0], Track { name: "English".to_string(), from: From::Record(path("en.record")) });
         let sounds = Sounds {
+            images: Images::default(),
             scripts: vec![path("mix.desk"), path("my preset.desk")],
             sources: vec![path("a.wav"), path("b.wav")],
             sent: path("2.wav"),
         };
         assert_eq!(tracks[1], Track { name: "Channel 2".to_string(), from: From::Sounds(sounds) });
+    }
+
+    #[test]
+    fn a_data_rom_stands_between_the_program_and_the_sources() {
+        let text = "track A program mix.hex preset.desk data rom.hex in a.wav sent 1.wav\ntrack B program \"data\" in a.wav sent 2.wav\n";
+        let tracks = parse(Path::new("tracks"), text).unwrap();
+        let sounds = |data: Option<&str>, scripts: &[&str], sent: &str| Sounds {
+            images: Images { program: None, data: data.map(PathBuf::from) },
+            scripts: scripts.iter().map(PathBuf::from).collect(),
+            sources: vec![PathBuf::from("a.wav")],
+            sent: PathBuf::from(sent),
+        };
+        assert_eq!(tracks[0].from, From::Sounds(sounds(Some("rom.hex"), &["mix.hex", "preset.desk"], "1.wav")));
+        assert_eq!(tracks[1].from, From::Sounds(sounds(None, &["data"], "2.wav")));
     }
 
     #[test]
@@ -160,5 +184,8 @@ mod tests {
         assert_eq!(told(twice), "evening/tracks:2:1: evening/x is track \"E\" too: expected a file for each");
         assert_eq!(told("track E program in a sent b"), "evening/tracks:1:17: \"in\": expected a file before it");
         assert_eq!(told("track E program p in a"), "evening/tracks:1:23: the line ends: expected a file, or `sent`");
+        assert_eq!(told("track E program p"), "evening/tracks:1:18: the line ends: expected a file, or `data` or `in`");
+        assert_eq!(told("track E program p data"), "evening/tracks:1:23: the line ends: expected the image of the data ROM");
+        assert_eq!(told("track E program p data d e in a sent b"), "evening/tracks:1:26: \"e\": expected `in`");
     }
 }

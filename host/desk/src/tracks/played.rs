@@ -3,6 +3,8 @@
 use crate::chip::event::Event;
 use crate::fault::Fault;
 use crate::progress::Meter;
+use crate::scripts::given::Images;
+use crate::scripts::reader::Reader;
 use crate::sound::wav::{self, Tail};
 use crate::tracks::findings::{Chip, Findings, Stretch};
 use crate::tracks::inputs::Inputs;
@@ -13,9 +15,11 @@ use bemulatsho::kind;
 use std::io::Read;
 use std::path::{Path, PathBuf};
 
-/// The scripts of the program and preset, the sources in their order, and what was sent.
+/// The images that the program is given first; its scripts and the preset's, of which one may be an image of the program; the sources in their
+/// order, and what was sent.
 #[derive(Clone, Debug, PartialEq, Eq)]
 pub struct Sounds {
+    pub images: Images,
     pub scripts: Vec<PathBuf>,
     pub sources: Vec<PathBuf>,
     pub sent: PathBuf,
@@ -39,7 +43,7 @@ pub fn source_name(file: &Path) -> String {
 
 fn compare(sounds: &Sounds, findings: &mut Findings, meter: &Meter) -> Result<(), Fault> {
     findings.files = sounds.sources.iter().chain([&sounds.sent]).cloned().collect();
-    let Prepared { machine, .. } = prepared(&sounds.scripts, &mut findings.files)?;
+    let Prepared { machine, .. } = prepared(&sounds.images, Reader::of_files_or_images(&sounds.scripts), &mut findings.files)?;
     let mut inputs = Inputs::open(&sounds.sources)?;
     let mut sent = wav::open(&sounds.sent)?;
     inputs.same_rate(&sounds.sent, sent.rate())?;

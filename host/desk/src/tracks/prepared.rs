@@ -1,8 +1,9 @@
-//! A machine as scripts prepare it for a mix: their images and registers, and their events played once.
+//! A machine as images and scripts prepare it for a mix: memories and registers filled, and events played once.
 
 use crate::chip::event::{Answered, Event};
 use crate::chip::machine::Machine;
 use crate::fault::Fault;
+use crate::scripts::given::Images;
 use crate::scripts::player::{Played, Player};
 use crate::scripts::reader::Reader;
 use crate::scripts::statement::{Action, Statement};
@@ -20,11 +21,13 @@ pub struct Prepared {
     pub sent: u64,
 }
 
-/// Reads the scripts and carries them out; every file that was read is added to `files`, also where there is a fault.
-pub fn prepared(scripts: &[PathBuf], files: &mut Vec<PathBuf>) -> Result<Prepared, Fault> {
-    let mut reader = Reader::of_files(scripts);
-    let statements = statements(&mut reader);
-    files.extend_from_slice(reader.files());
+/// Reads the images, then the scripts, and carries them out; every file that was read is added to `files`, also where there is a fault.
+pub fn prepared(images: &Images, mut scripts: Reader, files: &mut Vec<PathBuf>) -> Result<Prepared, Fault> {
+    files.extend(images.files().cloned());
+    let given = images.statements()?;
+    scripts.given(&given)?;
+    let statements = statements(given, &mut scripts);
+    files.extend_from_slice(scripts.files());
     let (mut player, mut actions, mut sent) = (Player::new(), Vec::new(), 0);
     for statement in statements? {
         let played = player.play(&statement)?;
@@ -38,9 +41,10 @@ pub fn prepared(scripts: &[PathBuf], files: &mut Vec<PathBuf>) -> Result<Prepare
     Ok(Prepared { machine: player.machine, actions, sent })
 }
 
-fn statements(reader: &mut Reader) -> Result<Vec<Statement>, Fault> {
-    let mut statements = Vec::new();
-    for statement in reader {
+/// What was given, and the statements of the scripts behind it.
+fn statements(given: Vec<Statement>, scripts: &mut Reader) -> Result<Vec<Statement>, Fault> {
+    let mut statements = given;
+    for statement in scripts {
         let statement = statement?;
         only_prepares(&statement)?;
         if statements.len() == MOST {
@@ -57,7 +61,7 @@ fn only_prepares(statement: &Statement) -> Result<(), Fault> {
         Action::Fill(_) | Action::Set { .. } | Action::Event(_) => Ok(()),
         other => {
             let name = other.name();
-            let message = format!("{name:?}: expected only program, rom, ram, patch, set, include and events in a script for a mix");
+            let message = format!("{name:?}: expected only program, data, rom, ram, patch, set, include and events in a script for a mix");
             Err(Fault::bad_at(statement.place, message))
         }
     }

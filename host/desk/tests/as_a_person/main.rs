@@ -6,6 +6,7 @@ mod convert;
 mod example;
 mod folder;
 mod help;
+mod images;
 mod memory;
 mod mix;
 mod progress;

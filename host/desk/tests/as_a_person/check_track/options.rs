@@ -4,7 +4,7 @@ use super::sounds::{evening, CHECK};
 use super::trial::{good, with_sent};
 use crate::folder::{ended, Folder};
 
-const USE: &str = "expected `desk check-track RECORD..`, or `--program SCRIPT.. --in WAV.. --sent WAV`, or `--tracks LIST`";
+const USE: &str = "expected `desk check-track RECORD..`, or `--program FILE.. [--data FILE] --in WAV.. --sent WAV`, or `--tracks LIST`";
 
 #[test]
 fn bad_use_says_what_was_expected() {
@@ -13,7 +13,12 @@ fn bad_use_says_what_was_expected() {
     let cases = [
         ("", "no track"),
         ("good.record --quick", "\"--quick\" is no option"),
-        ("--program", "--program: expected the scripts of the program"),
+        ("--program", "--program: expected the scripts or the image of the program"),
+        ("--data", "--data: expected an Intel HEX file"),
+        ("--data -", "--data -: expected a file"),
+        ("--data a --data b", "--data a second time"),
+        ("--data a", "--program, --in and --sent: expected all three"),
+        ("good.record --data a --in b --sent c", "--program, --in and --sent: expected all three"),
         ("--program a --in", "--in: expected the sounds of the sources"),
         ("--program a --in b", "--program, --in and --sent: expected all three"),
         ("--in b --sent c", "--program, --in and --sent: expected all three"),

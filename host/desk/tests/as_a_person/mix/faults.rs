@@ -2,7 +2,7 @@
 
 use super::{mixing, MIX};
 
-const USE: &str = "expected `desk mix SCRIPT.. --in WAV.. --out WAV [--record FILE]`; see `desk help mix`";
+const USE: &str = "expected `desk mix [--program FILE] [--data FILE] SCRIPT.. --in WAV.. --out WAV [--record FILE]`; see `desk help mix`";
 
 #[test]
 fn bad_use_is_told() {
@@ -10,8 +10,9 @@ fn bad_use_is_told() {
     let before = folder.names();
     let many = "booth.wav ".repeat(17);
     let cases = [
-        ("", "no script: expected one or more before --in"),
-        ("--in booth.wav --out track.wav", "no script: expected one or more before --in"),
+        ("", "no script: expected one or more before --in, or --program"),
+        ("--in booth.wav --out track.wav", "no script: expected one or more before --in, or --program"),
+        ("--data data.hex --in booth.wav --out track.wav", "no script: expected one or more before --in, or --program"),
         ("mixing.desk --out track.wav", "no --in: expected the files of the sources"),
         ("mixing.desk --in --out track.wav", "--in with 0 files: expected 1 to 16 sources"),
         ("mixing.desk --in booth.wav", "no --out: expected the file of the track"),
@@ -85,7 +86,7 @@ fn statements_that_check_or_print_are_bad_in_a_mix() {
     for text in ["reply 0", "sent 0", "expect A 0", "expect ram 0 0", "show", "rate 8000", "sources booth", "samples 0"] {
         folder.write("checks.desk", format!("run 0\n  {text}\n"));
         let name = text.split(' ').next().expect("a name");
-        let expected = "expected only program, rom, ram, patch, set, include and events in a script for a mix";
+        let expected = "expected only program, data, rom, ram, patch, set, include and events in a script for a mix";
         let told = format!("checks.desk:2:3: {name:?}: {expected}");
         folder.desk("mix mixing.desk checks.desk --in booth.wav --out track.wav").is_refused(2, &told);
     }

@@ -51,7 +51,7 @@ fn played(text: &str) -> Result<(), Fault> {
 }
 
 /// An expectation with another number at its end.
-fn made_wrong(line: &str) -> Option<String> {
+pub fn made_wrong(line: &str) -> Option<String> {
     let mut words: Vec<&str> = line.split('#').next()?.split_whitespace().collect();
     if !matches!(words.first(), Some(&"expect" | &"reply" | &"sent")) {
         return None;

@@ -34,11 +34,15 @@ fn a_bad_number_or_end_is_told_with_its_place_before_anything_runs() {
 #[test]
 fn a_bad_address_or_word_is_told_with_its_place_before_anything_runs() {
     let address = "expected an address and a colon, as 01FH:";
+    let or_file = format!("{address}, or the name of an Intel HEX file");
     let cases = [
-        ("program", format!("8: the line ends: {address}")),
-        ("program 0", format!("9: \"0\": {address}")),
-        ("program 0 : 1", format!("9: \"0\": {address}")),
-        ("program x: 1", format!("9: \"x:\": {address}")),
+        ("program", format!("8: the line ends: {or_file}")),
+        ("program 0", format!("9: \"0\": {or_file}")),
+        ("program 0 : 1", format!("9: \"0\": {or_file}")),
+        ("program x: 1", format!("9: \"x:\": {or_file}")),
+        ("rom", format!("4: the line ends: {address}")),
+        ("ram x", format!("5: \"x\": {address}")),
+        ("patch program x", format!("15: \"x\": {address}")),
         ("program 0:", "11: the line ends: expected a number".to_string()),
         ("program 511: 1 2", "16: \"2\": expected nothing: program has 512 places".to_string()),
         ("rom 512: 1", "5: \"512:\": expected an address below 200H".to_string()),

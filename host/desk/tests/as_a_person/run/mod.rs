@@ -2,7 +2,7 @@
 
 mod damaged;
 mod events;
-mod examples;
+pub mod examples;
 mod expectations;
 mod includes;
 mod lines;

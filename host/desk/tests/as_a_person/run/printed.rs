@@ -86,8 +86,8 @@ fn bad_use_says_what_was_expected() {
         ("run --json s.desk --quiet", "--quiet and --json together"),
     ];
     for (line, told) in cases {
-        let told = format!("{told}: expected `desk run [--quiet | --json] SCRIPT`, where - is standard input");
-        folder.desk(line).is_refused(2, &told);
+        let usage = "expected `desk run [--quiet | --json] [--program FILE] [--data FILE] SCRIPT`, where a script of - is standard input";
+        folder.desk(line).is_refused(2, &format!("{told}: {usage}"));
     }
 }
 
