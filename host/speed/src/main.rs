@@ -1,9 +1,9 @@
 //! Words a second of the proved core, through the C interface with 65535 words a call, and of the emulator, on the same programs in
-//! turn; the instructions that a word takes by callgrind; how many chips one core carries; what the processor could do meanwhile; and
-//! how fast the desk mixes and checks tracks. A measurement, and no test.
+//! turn; the instructions that a word takes by callgrind; how many chips one core carries; what the processor could do meanwhile; how fast
+//! the desk mixes and checks tracks; and how fast texts are loaded. A measurement, and no test.
 
 use speed::programs::{self, Program};
-use speed::{tracks, yardstick};
+use speed::{texts, tracks, yardstick};
 use std::process::{exit, Command};
 use std::time::{Duration, Instant};
 
@@ -146,8 +146,9 @@ fn count(place: &str, calls: &str) {
     }
 }
 
-fn tracks_table() {
-    if let Err(message) = tracks::table() {
+/// What a table has printed, or why it could not.
+fn printed(table: Result<(), String>) {
+    if let Err(message) = table {
         eprintln!("speed: {message}");
         exit(1);
     }
@@ -158,13 +159,15 @@ fn main() {
     match arguments.iter().map(String::as_str).collect::<Vec<_>>()[..] {
         [] => {
             table(&programs::all()[..programs::LOOPS]);
-            tracks_table();
+            printed(tracks::table());
+            printed(texts::table());
         }
-        ["tracks"] => tracks_table(),
+        ["tracks"] => printed(tracks::table()),
+        ["texts"] => printed(texts::table()),
         ["words"] => table(&programs::all()[programs::LOOPS..]),
         ["count", place, calls] => count(place, calls),
         _ => {
-            eprintln!("usage: speed | speed words | speed tracks | speed count PROGRAM CALLS");
+            eprintln!("usage: speed | speed words | speed tracks | speed texts | speed count PROGRAM CALLS");
             exit(2);
         }
     }

@@ -1,6 +1,7 @@
 //! How fast tracks are mixed and checked: the mixing example on three sources at 48 kHz, by the functions that `desk` calls.
 
 use desk::commands::mix::{mix, Order};
+use desk::scripts::given::Images;
 use desk::sound::wav::{self, Sound};
 use desk::tracks::list::{From, Track};
 use desk::tracks::played::Sounds;
@@ -29,7 +30,8 @@ fn measure(folder: &Path) -> Result<(), String> {
     mix(&order).map_err(|fault| fault.to_string())?;
     println!("\ntracks of three sources at 48 kHz, {SECONDS} seconds each");
     line("mix, with its record", samples, start);
-    let sounds = Sounds { scripts: order.scripts.clone(), sources: order.sources.clone(), sent: order.track.clone() };
+    let (scripts, sources) = (order.scripts.clone(), order.sources.clone());
+    let sounds = Sounds { images: Images::default(), scripts, sources, sent: order.track.clone() };
     let cores = std::thread::available_parallelism().map_or(1, |cores| cores.get());
     for (what, from) in [("check of sound files", From::Sounds(sounds)), ("check of compact records", record(&order)?)] {
         for tracks in [1, cores] {
@@ -75,5 +77,6 @@ fn made(folder: &Path) -> Result<Order, String> {
     }
     let program = write("mixing.desk", include_bytes!("../../../examples/mixing/mixing.desk"))?;
     let preset = write("preset.desk", b"ram 0: 7000H 7000H 7000H\n")?;
-    Ok(Order { scripts: vec![program, preset], sources, track: folder.join("track.wav"), record: Some(folder.join("track.record")) })
+    let (track, record) = (folder.join("track.wav"), Some(folder.join("track.record")));
+    Ok(Order { images: Images::default(), scripts: vec![program, preset], sources, track, record })
 }
