@@ -2,11 +2,14 @@
 //! cut, one has a flipped bit, one sound has a flipped bit, one was played by the trial desk, and one has two sources exchanged.
 //! Two seconds each by default, as many as SITTING_SECONDS says (`make sitting` for ten minutes).
 
+mod held;
+
 use desk::chip::machine::Machine;
 use desk::scripts::given::Images;
 use desk::scripts::reader::Reader;
 use desk::sound::wav;
 use desk::tracks::prepared::prepared;
+use held::held;
 use random::Random;
 use std::fs::{self, File};
 use std::io::{BufWriter, Seek, SeekFrom, Write};
@@ -18,9 +21,6 @@ const RATE: u32 = 48_000;
 
 /// The most memory that a check may take, however long the tracks are.
 const MOST_KILOBYTES: u64 = 64 * 1024;
-
-/// What an emulator of the processor may take besides, for the code that it has translated.
-const TRANSLATED_KILOBYTES: u64 = 128 * 1024;
 
 const SOURCES: [&str; 4] = ["booth", "floor", "relay", "room"];
 
@@ -207,33 +207,27 @@ fn made() -> Sitting {
     sitting
 }
 
-/// Runs a command; what it printed, and the most memory that it took and may take, in kilobytes.
-fn measured(mut command: Command) -> (Output, u64, u64) {
+/// Runs a command; what it printed, and the most memory that it was seen to hold, in kilobytes.
+fn measured(mut command: Command) -> (Output, u64) {
     let child = command.stdout(Stdio::piped()).stderr(Stdio::piped()).spawn().expect("desk runs");
-    let process = format!("/proc/{}", child.id());
+    let process = child.id();
     let watching = std::thread::spawn(move || {
-        let (mut most, mut allowed) = (0, 0);
-        while let (Ok(text), Ok(program)) = (fs::read_to_string(format!("{process}/status")), fs::read_link(format!("{process}/exe"))) {
-            let peak = text.lines().find_map(|line| line.strip_prefix("VmHWM:")?.trim().strip_suffix(" kB")?.trim().parse().ok());
-            // A process that has ended has no memory any more.
-            let Some(peak) = peak else { break };
-            most = peak;
-            allowed = if program.ends_with("desk") { MOST_KILOBYTES } else { MOST_KILOBYTES + TRANSLATED_KILOBYTES };
+        let mut most = 0;
+        while let Some(now) = held(process) {
+            most = most.max(now);
             std::thread::sleep(std::time::Duration::from_millis(10));
         }
-        (most, allowed)
+        most
     });
     let output = child.wait_with_output().expect("desk ends");
-    let (most, allowed) = watching.join().expect("the watch ends");
-    (output, most, allowed)
+    (output, watching.join().expect("the watch ends"))
 }
 
 #[test]
 fn twelve_tracks_have_the_right_verdicts_in_one_command() {
     let sitting = made();
     let begin = std::time::Instant::now();
-    let (output, most, allowed) =
-        measured(desk(&sitting.folder, "check-track --tracks evening.tracks --report evening.html --start 19:30:00"));
+    let (output, most) = measured(desk(&sitting.folder, "check-track --tracks evening.tracks --report evening.html --start 19:30:00"));
     println!("{} seconds a track: checked in {:.1} s, at most {most} kB", seconds(), begin.elapsed().as_secs_f64());
     let (out, err) = (String::from_utf8_lossy(&output.stdout), String::from_utf8_lossy(&output.stderr));
     print!("{out}");
@@ -247,7 +241,7 @@ fn twelve_tracks_have_the_right_verdicts_in_one_command() {
         }
     }
     assert_eq!(lines[12], "12 tracks: agrees 7, differs 3, incomplete 1, unreadable 1");
-    assert!(most > 0 && most < allowed, "{most} kB");
+    assert!(most > 0 && most < MOST_KILOBYTES, "{most} kB");
     page_shows(&fs::read_to_string(sitting.path("evening.html")).expect("the report"));
 }
 

@@ -5,6 +5,8 @@ mod closed_pipes;
 mod convert;
 mod example;
 mod folder;
+#[path = "../held/mod.rs"]
+mod held;
 mod help;
 mod images;
 mod memory;

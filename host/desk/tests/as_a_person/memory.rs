@@ -1,6 +1,7 @@
 //! However long a track is, its check takes the same memory.
 
 use crate::folder::{ended, Folder};
+use crate::held::held;
 use random::Random;
 use std::process::Child;
 use std::thread::sleep;
@@ -20,13 +21,11 @@ fn seconds(count: usize) -> Folder {
     folder
 }
 
-/// The most memory that a process ever had, in kilobytes, by the last look at it before its end.
+/// The most memory that a process was seen to hold, in kilobytes.
 fn peak(child: &mut Child) -> u64 {
     let mut most = 0;
     while child.try_wait().expect("desk runs").is_none() {
-        let status = std::fs::read_to_string(format!("/proc/{}/status", child.id())).unwrap_or_default();
-        let line = status.lines().find_map(|line| line.strip_prefix("VmHWM:"));
-        most = line.and_then(|line| line.trim().strip_suffix(" kB")?.parse().ok()).unwrap_or(most);
+        most = most.max(held(child.id()).unwrap_or(0));
         sleep(Duration::from_millis(1));
     }
     assert!(most > 0, "the memory of the program can be seen");
@@ -42,13 +41,14 @@ fn taken(folder: &Folder, line: &str, seconds: usize) -> u64 {
     peak
 }
 
-/// The system may give a program more than it needs: what counts is the least of some tries.
+/// A look may miss the most that was held, and the system may give a program more than it needs: what counts is the most of some tries of the
+/// short one, and the least of some tries of the long one.
 #[track_caller]
 fn is_bounded(line: &str) {
     let (short, long) = (seconds(SHORT), seconds(LONG));
-    let least = taken(&short, line, SHORT);
-    let mut tries = (0..3).map(|_| taken(&long, line, LONG));
-    assert!(tries.any(|most| most <= least + MOST), "{least} kB for {SHORT} seconds, {} kB for {LONG}", taken(&long, line, LONG));
+    let most = (0..3).map(|_| taken(&short, line, SHORT)).max().unwrap_or(0);
+    let least = (0..3).map(|_| taken(&long, line, LONG)).min().unwrap_or(u64::MAX);
+    assert!(least <= most + MOST, "{most} kB for {SHORT} seconds, {least} kB for {LONG}");
 }
 
 #[cfg(target_os = "linux")]
