@@ -14,11 +14,11 @@ use Rattle.numbers.specs.Every.{Every}
 use Rattle.image.specs.Lines.{lines}
 use Rattle.image.specs.Record.{Record}
 use Rattle.image.specs.IntelHex.{intelHex}
-use Rattle.image.specs.Image.{Given, given, give, Walked, at, walk, value, Loaded, load}
+use Rattle.image.specs.Image.{Given, given, give, Walked, at, walk, value, cells, Loaded, load}
 use Rattle.image.proofs.Giving.{give-free}
 use Rattle.image.proofs.Order.{was-free, free-inside}
 use Rattle.image.proofs.Walking.{walk-last}
-use Rattle.image.proofs.Fills.{cells-at}
+use Rattle.image.proofs.Fills.{cells-length, cells-at}
 use Rattle.image.proofs.Loads.{blank, walk-taken, load-short, load-taken}
 use Rattle.loads.specs.Given.{gives, byteFor, bytesFor}
 use Rattle.loads.specs.Promises.{records, InItsPlace}
@@ -170,14 +170,28 @@ within : (width size cell : ℕ) → cell < size → width * cell + width ≤ wi
 within width zero cell h = absurd (omega arith)
 within width (suc size) cell h = rw mul-suc (within-if width size cell h (within width size cell) (eqb cell size) refl)
 
--- an image that is filled has the right length
+-- an image that is filled was lent with the right length
 long-if : (width size : ℕ) (text image : List ℕ) (t : Bool) → eqb (length image) size ≡ t → load intelHex width size text image .number ≡ 0 → length image ≡ size
 long-if width size text image true e h = eqb-true _ _ e
 long-if width size text image false e h =
     absurd (omega (arith, h, ap (λ (x : Loaded). x .number) (load-short intelHex width size text image (eqb-false _ _ e))))
 
-pub load-long : (width size : ℕ) (text image : List ℕ) → load intelHex width size text image .number ≡ 0 → length image ≡ size
+load-long : (width size : ℕ) (text image : List ℕ) → load intelHex width size text image .number ≡ 0 → length image ≡ size
 load-long width size text image = long-if width size text image (eqb (length image) size) refl
+
+-- and has the cells that the walk left
+filled : (width size : ℕ) (text image : List ℕ) → load intelHex width size text image .number ≡ 0
+    → load intelHex width size text image .image ≡ cells width size (walk 0 (records text) (blank width size) .bytes)
+filled width size text image h =
+    let w = walk 0 (records text) (blank width size) in
+    ap (λ (x : Loaded). x .image)
+    (load-taken intelHex width size text image (load-long width size text image h) (at (w .line) (w .number)) (w .bytes) refl
+    (walk-taken intelHex width size text image h))
+
+pub filled-long : (width size : ℕ) (text image : List ℕ) → load intelHex width size text image .number ≡ 0
+    → length (load intelHex width size text image .image) ≡ size
+filled-long width size text image h =
+    ap (λ (l : List ℕ). length l) (filled width size text image h) ∙ cells-length width size (walk 0 (records text) (blank width size) .bytes)
 
 pub in-its-place : InItsPlace
 in-its-place width size text image h cell c =
@@ -188,7 +202,6 @@ in-its-place width size text image h cell c =
     let at-place : (x : ℕ) → x < length (w .bytes) → getD (w .bytes) x 0 ≡ byteFor rs x = λ x u.
     walk-left 0 rs (blank width size) (all-sound (lines text)) z x
     ∙ left-free (blank width size) rs x (getD-replicate (width * size) x 256 0 (omega (arith, long))) in
-    ap (λ (x : Loaded). getD (x .image) cell 0)
-    (load-taken intelHex width size text image (load-long width size text image h) (at (w .line) (w .number)) (w .bytes) refl z)
+    ap (λ (l : List ℕ). getD l cell 0) (filled width size text image h)
     ∙ cells-at width size (w .bytes) cell c
     ∙ ap value (cut rs (w .bytes) at-place width (width * cell) (omega (arith, long, within width size cell c)))

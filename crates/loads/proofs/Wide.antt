@@ -4,8 +4,9 @@ use mathlib.Core.Bool.{true}
 use mathlib.Core.List.{List}
 use Prim.Native.Nat.{ℕ, suc, _<_, _≤_}
 use native.Mathlib.Omega.{arith}
+use lib.ListN.{length}
 use lib.Dec.{leb}
-use borrow.Author.Tests.{le-leb, lt-ltb}
+use borrow.Author.Tests.{le-leb, lt-ltb, eq-eqb}
 use Rattle.device.specs.Device.{upd77p20, wordLimit, cellLimit}
 use Rattle.device.specs.Lent.{wordAt, romAt}
 use Rattle.device.specs.Registers.{registersFit}
@@ -27,7 +28,12 @@ use Rattle.machine.specs.Events.{lentFit, kindDone, eventDone}
 use Rattle.machine.proofs.Calls.{call-done}
 use Rattle.machine.proofs.Runs.{ran-refused}
 use Rattle.loads.specs.Promises.{valueGiven, Reads, WordTooWide, CellTooWide}
-use Rattle.loads.proofs.Places.{in-its-place}
+use Rattle.loads.proofs.Places.{filled-long, in-its-place}
+
+-- refusal 1 is not given for lists of the chip's lengths
+lent : (program rom ram : List ℕ) → length program ≡ upd77p20 .words → length rom ≡ upd77p20 .cells → length ram ≡ upd77p20 .ram
+    → lentFit program rom ram ≡ true
+lent program rom ram p q s = rw (eq-eqb _ _ p, eq-eqb _ _ q, eq-eqb _ _ s)
 
 -- a run whose first word is refused
 run-refused : (r : Registers) (program rom ram : List ℕ) (number count : ℕ) → lentFit program rom ram ≡ true → registersFit upd77p20 r ≡ true
@@ -44,8 +50,9 @@ unfolding wordDone fetchedDone
 wide-word r program rom ram h = rw (taken-refused (wordAt program (r .pc)) h)
 
 pub word-too-wide : WordTooWide
-word-too-wide text image taken r rom ram long fit wide count c =
+word-too-wide text image taken r rom ram rom-long ram-long fit wide count c =
     let program = load intelHex 4 (upd77p20 .words) text image .image in
+    let long = lent program rom ram (filled-long 4 (upd77p20 .words) text image taken) rom-long ram-long in
     let same : wordAt program (r .pc) ≡ valueGiven 4 text (r .pc .0) = in-its-place 4 (upd77p20 .words) text image taken (r .pc .0) (fit-of r fit .pc-fits) in
     run-refused r program rom ram 4 count long fit c (λ z. omega arith) (wide-word r program rom ram (omega (arith, same, wide)))
 
@@ -68,8 +75,9 @@ module _ (r : Registers) (rom ram : List ℕ) (wide : leb (cellLimit upd77p20) (
 
 pub cell-too-wide : CellTooWide
 unfolding wordDone
-cell-too-wide text image taken r program ram long fit narrow uses wide count c =
+cell-too-wide text image taken r program ram program-long ram-long fit narrow uses wide count c =
     let rom = load intelHex 2 (upd77p20 .cells) text image .image in
+    let long = lent program rom ram program-long (filled-long 2 (upd77p20 .cells) text image taken) ram-long in
     let same : romAt rom (r .rp) ≡ valueGiven 2 text (r .rp .0) = in-its-place 2 (upd77p20 .cells) text image taken (r .rp .0) (fit-of r fit .rp-fits) in
     let too = le-leb (cellLimit upd77p20) (romAt rom (r .rp)) (omega (arith, same, wide)) in
     run-refused r program rom ram 7 count long fit c (λ z. omega arith) (wide-fetched r rom ram too (wordAt program (r .pc)) narrow uses)

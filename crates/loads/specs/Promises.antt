@@ -19,7 +19,7 @@ use Rattle.codes.specs.Codes.{isDestination}
 use Rattle.codes.specs.declared.Destination.the-variants as Dst
 use Rattle.words.specs.Refusals.{sourceMissing, usesCell}
 use Rattle.machine.specs.Replies.{refusedCall}
-use Rattle.machine.specs.Events.{lentFit, eventDone}
+use Rattle.machine.specs.Events.{eventDone}
 use Rattle.loads.specs.Given.{Closed, ExactlyOnce, bytesFor}
 
 -- the records of a text of Intel HEX
@@ -47,7 +47,7 @@ InItsPlace =
 abbrev pub WordTooWide : Type 0
 WordTooWide =
     (text image : List ℕ) → let loaded = load intelHex 4 (upd77p20 .words) text image in
-    loaded .number ≡ 0 → (r : Registers) (rom ram : List ℕ) → lentFit (loaded .image) rom ram ≡ true → registersFit upd77p20 r ≡ true
+    loaded .number ≡ 0 → (r : Registers) (rom ram : List ℕ) → length rom ≡ upd77p20 .cells → length ram ≡ upd77p20 .ram → registersFit upd77p20 r ≡ true
     → wordLimit upd77p20 ≤ valueGiven 4 text (r .pc .0)
     → (count : ℕ) → count < 65535 → eventDone r (loaded .image) rom ram 0 (suc count) ≡ refusedCall 4 r ram
 
@@ -62,7 +62,7 @@ Reads (Ldi f) = isDestination (f .dst) Dst.Klr ≡ true
 abbrev pub CellTooWide : Type 0
 CellTooWide =
     (text image : List ℕ) → let loaded = load intelHex 2 (upd77p20 .cells) text image in
-    loaded .number ≡ 0 → (r : Registers) (program ram : List ℕ) → lentFit program (loaded .image) ram ≡ true → registersFit upd77p20 r ≡ true
+    loaded .number ≡ 0 → (r : Registers) (program ram : List ℕ) → length program ≡ upd77p20 .words → length ram ≡ upd77p20 .ram → registersFit upd77p20 r ≡ true
     → wordAt program (r .pc) < wordLimit upd77p20 → Reads (takenApart (wordAt program (r .pc)) .word)
     → cellLimit upd77p20 ≤ valueGiven 2 text (r .rp .0)
     → (count : ℕ) → count < 65535 → eventDone r program (loaded .image) ram 0 (suc count) ≡ refusedCall 7 r ram
