@@ -12,8 +12,10 @@ use lib.Dec.{eqb}
 use borrow.Author.Tests.{eqb-false}
 use Rattle.image.specs.Hexadecimal.{byte, bytesOf}
 use Rattle.image.specs.IntelHex.{dataPart, intelHex}
-use Rattle.image.specs.Image.{Given, given, give, missing, Walked, walked, at, ended, unended, some, walk, value, cells}
+use Rattle.image.specs.Image.{Given, given, give, missing, Walked, walked, walk, value, cells}
 use Rattle.image.specs.declared.text.Loading.{Loading}
+use Rattle.image.proofs.Walking.{walk-last}
+use Rattle.image.proofs.Taking.{never, first}
 
 -- one more cell of the image is as wanted
 pub fill-step : (want image : List ℕ) (i v : ℕ) → i < length image → i < length want → getD want i 0 ≡ v → take i image ≡ take i want → take (i + 1) (set image i v) ≡ take (i + 1) want
@@ -85,7 +87,7 @@ small-give (x ∷ y ∷ l) a g s =
     small-if (eqb (getD g a 0) 256) (give (a + 1) (bytesOf l) (set g a (byte x y))) (given 15 g)
     (small-give l (a + 1) (set g a (byte x y)) (small-set g a (byte x y) s (byte-small x y))) s
 
-neither : (a b : Bool) → (a || b) ≡ false → (a ≡ false) × (b ≡ false)
+pub neither : (a b : Bool) → (a || b) ≡ false → (a ≡ false) × (b ≡ false)
 neither true b h = absurd (omega (arith, ap (λ (t : Bool). cond {A = ℕ} t 1 0) h))
 neither false b h = (refl, h)
 
@@ -99,41 +101,17 @@ filled-bytes (b ∷ g) s m (suc i) = filled-bytes g (λ k. s (suc k)) (neither (
 abbrev pub Filled : Walked → Type 0
 Filled w = w .number ≡ 0 → (i : ℕ) → getD (w .bytes) i 0 < 256
 
-ended-if : (m a : Bool) (line : ℕ) → cond m (at line 15) (cond a (at (line + 1) 16) (at line 0)) .number ≡ 0 → m ≡ false
-ended-if true a line h = absurd (omega arith)
-ended-if false a line h = refl
-
-filled-ended : (line : ℕ) (a : Bool) (g : List ℕ) → Small g → Filled (walked (ended line a g) g)
-unfolding ended
-filled-ended line a g s h = filled-bytes g s (ended-if (missing g) a line h)
-
-filled-if : (m : Bool) (line : ℕ) (g : List ℕ) → Filled (walked (cond m (at line 15) (at line 16)) g)
-filled-if true line g h = absurd (omega arith)
-filled-if false line g h = absurd (omega arith)
-
-filled-unended : (line : ℕ) (g : List ℕ) → Filled (walked (unended line g) g)
-unfolding unended
-filled-unended line g = filled-if (missing g) line g
-
-filled-refused : (line n : ℕ) (g : List ℕ) → eqb n 0 ≡ false → Filled (walked (at line n) g)
-filled-refused line n g q h = absurd (eqb-false n 0 q h)
-
-filled-turn : (good last free : Bool) (line n m : ℕ) (e : Loading) (more : Walked) (g g′ : List ℕ) → eqb n 0 ≡ good → eqb m 0 ≡ free
-    → Filled (walked e g) → Filled more → Filled (cond good (cond last (walked e g) (cond free more (walked (at line m) g′))) (walked (at line n) g))
-filled-turn true true free line n m e more g g′ p q h k = h
-filled-turn true false true line n m e more g g′ p q h k = k
-filled-turn true false false line n m e more g g′ p q h k = filled-refused line m g′ q
-filled-turn false last free line n m e more g g′ p q h k = filled-refused line n g p
-
 pub walk-filled : (line : ℕ) (ls : List (List ℕ)) (g : List ℕ) → Small g → Filled (walk line (map intelHex ls) g)
-unfolding walk intelHex
-walk-filled line [] g s = filled-unended line g
-walk-filled line (l ∷ ls) g s =
+unfolding intelHex
+walk-filled line [] g s h i = absurd (never line g h)
+walk-filled line (l ∷ ls) g s h i =
     let r = intelHex l in
-    let p = give (r .address) (r .bytes) g in
-    filled-turn (eqb (r .number) 0) (r .last) (eqb (p .number) 0) (line + 1) (r .number) (p .number) (ended (line + 1) (some (map intelHex ls)) g)
-    (walk (line + 1) (map intelHex ls) (p .bytes)) g (p .bytes) refl refl (filled-ended (line + 1) (some (map intelHex ls)) g s)
-    (walk-filled (line + 1) ls (p .bytes) (small-give (dataPart l) (r .address) g s))
+    first line r (map intelHex ls) g h
+    (λ n last m e. omega (arith, ap (λ (w : Walked). getD (w .bytes) i 0) (walk-last line r (map intelHex ls) g n last), filled-bytes g s m i))
+    (λ n last g′ gave e.
+    let small : Small g′ = subst (λ (p : Given). Small (p .bytes)) gave (small-give (dataPart l) (r .address) g s) in
+    let more = walk-filled (line + 1) ls g′ small (sym (ap (λ (w : Walked). w .number) e) ∙ h) i in
+    omega (arith, ap (λ (w : Walked). getD (w .bytes) i 0) e, more))
 
 pub taken-filled : (ls : List (List ℕ)) (g : List ℕ) (e : Loading) (g′ : List ℕ) → Small g → walked e g′ ≡ walk 0 (map intelHex ls) g → e .number ≡ 0
     → (i : ℕ) → getD g′ i 0 < 256

@@ -4,6 +4,7 @@ pub mod Records
 pub mod Lines
 pub mod Giving
 pub mod Walking
+pub mod Taking
 pub mod Fills
 pub mod Loads
 pub mod Proper

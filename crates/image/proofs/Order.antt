@@ -13,10 +13,11 @@ use Rattle.image.specs.Hexadecimal.{byte, bytesOf}
 use Rattle.image.specs.Lines.{lines, joined}
 use Rattle.image.specs.IntelHex.{dataPart, intelHex}
 use Rattle.image.specs.Record.{Record}
-use Rattle.image.specs.Image.{Given, given, give, missing, Walked, walked, at, ended, some, walk}
+use Rattle.image.specs.Image.{Given, given, give, Walked, some, walk}
 use Rattle.image.specs.Promises.{AnyOrder}
 use Rattle.image.proofs.Giving.{give-free, give-taken}
-use Rattle.image.proofs.Walking.{walk-refused, walk-last, walk-on, walk-outside}
+use Rattle.image.proofs.Walking.{walk-on}
+use Rattle.image.proofs.Taking.{first}
 use Rattle.image.proofs.Loads.{blank, walk-taken, load-by}
 use Rattle.image.proofs.Proper.{Good, lines-joined, load-good}
 
@@ -92,35 +93,11 @@ record Taken (r : Record) (g : List ℕ) : Type 0 where
   left : List ℕ
   gave : give (r .address) (r .bytes) g ≡ given 0 left
 
-late-if : (m : Bool) (line : ℕ) → cond m (at line 15) (cond true (at (line + 1) 16) (at line 0)) .number ≡ 0 → ⊥
-late-if true line h = omega arith
-late-if false line h = omega arith
-
--- an end record with text after it is refused, with 15 or 16
-late : (line : ℕ) (g : List ℕ) → ended line true g .number ≡ 0 → ⊥
-unfolding ended
-late line g = late-if (missing g) line
-
-module _ (line : ℕ) (r : Record) (rs : List Record) (g : List ℕ) (more : some rs ≡ true) (h : walk line (r ∷ rs) g .number ≡ 0) where
-  taken-if : (good last free : Bool) → eqb (r .number) 0 ≡ good → r .last ≡ last → eqb (give (r .address) (r .bytes) g .number) 0 ≡ free → Taken r g
-  taken-if true true free b l f =
-      let e = walk-last line r rs g (eqb-true (r .number) 0 b) l ∙ ap (λ (t : Bool). walked (ended (line + 1) t g) g) more in
-      absurd (late (line + 1) g (sym (ap (λ (w : Walked). w .number) e) ∙ h))
-  taken-if true false true b l f =
-      let p = give (r .address) (r .bytes) g in
-      record { good = eqb-true (r .number) 0 b; on = l; left = p .bytes; gave = ap (λ (n : ℕ). given n (p .bytes)) (eqb-true (p .number) 0 f) }
-  taken-if true false false b l f =
-      let p = give (r .address) (r .bytes) g in
-      let z = eqb-false (p .number) 0 f in
-      let e = walk-outside line r rs g (eqb-true (r .number) 0 b) l (p .number) (p .bytes) refl z in
-      absurd (z (sym (ap (λ (w : Walked). w .number) e) ∙ h))
-  taken-if false last free b l f =
-      let z = eqb-false (r .number) 0 b in
-      absurd (z (sym (ap (λ (w : Walked). w .number) (walk-refused line r rs g z)) ∙ h))
-
-  -- in a text that is taken, a record with others after it is taken, and is no end record
-  taken : Taken r g
-  taken = taken-if (eqb (r .number) 0) (r .last) (eqb (give (r .address) (r .bytes) g .number) 0) refl refl refl
+-- in a text that is taken, a record with others after it is taken, and is no end record
+taken : (line : ℕ) (r : Record) (rs : List Record) (g : List ℕ) → some rs ≡ true → walk line (r ∷ rs) g .number ≡ 0 → Taken r g
+taken line r rs g more h =
+    first line r rs g h (λ n l m e. absurd (omega (arith, ap (λ (t : Bool). cond {A = ℕ} t 1 0) (sym more ∙ e))))
+    (λ n l g′ gave e. record { good = n; on = l; left = g′; gave = gave })
 
 pass : (line : ℕ) (r : Record) (rs : List Record) (g : List ℕ) (t : Taken r g) → walk line (r ∷ rs) g ≡ walk (line + 1) rs (t .left)
 pass line r rs g t = walk-on line r rs g (t .good) (t .on) (t .left) (t .gave)

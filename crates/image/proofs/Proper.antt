@@ -7,14 +7,14 @@ use native.Mathlib.Omega.{arith}
 use lib.ListN.{length, getD, take, drop, take-append-drop, drop-of-length-le}
 use lib.Seq.{drop-cons}
 use lib.Dec.{eqb, ltb}
-use borrow.Author.Tests.{ltb-true, ltb-false, ne-eqb, eqb-true, eqb-false}
+use borrow.Author.Tests.{ltb-true, ltb-false, ne-eqb, eqb-true}
 use Rattle.numbers.specs.Every.{Every}
 use Rattle.image.specs.Hexadecimal.{digit, allDigits}
 use Rattle.image.specs.Lines.{lines, onto, joined}
 use Rattle.image.specs.IntelHex.{ending, characters, recordHead, intelHex}
-use Rattle.image.specs.Image.{give, missing, Walked, walked, at, ended, some, walk, load}
-use Rattle.image.specs.declared.text.Loading.{Loading}
+use Rattle.image.specs.Image.{Walked, some, walk, load}
 use Rattle.image.proofs.Records.{Formed, formed-has, good}
+use Rattle.image.proofs.Taking.{first}
 use Rattle.image.proofs.Loads.{blank, walk-taken}
 
 -- characters from the first digit on: no line feed and no carriage return
@@ -101,31 +101,17 @@ unfolding lines joined
 lines-joined [] g = refl
 lines-joined (l ∷ ls) g = good-proper l (g .0) (joined ls) ∙ ap (λ (r : List (List ℕ)). l ∷ r) (lines-joined ls (g .1))
 
--- a turn of a walk that ends with 0 has a good record, and A holds if it follows both from its end record and from the rest of the walk
-turn-good : (A : Type 0) (good last free : Bool) (line n m : ℕ) (e : Loading) (more : Walked) (g g′ : List ℕ) → eqb n 0 ≡ good → eqb m 0 ≡ free
-    → (e .number ≡ 0 → A) → (more .number ≡ 0 → A)
-    → cond good (cond last (walked e g) (cond free more (walked (at line m) g′))) (walked (at line n) g) .number ≡ 0 → (n ≡ 0) × A
-turn-good A true true free line n m e more g g′ p q a b h = (eqb-true n 0 p, a h)
-turn-good A true false true line n m e more g g′ p q a b h = (eqb-true n 0 p, b h)
-turn-good A true false false line n m e more g g′ p q a b h = absurd (eqb-false m 0 q h)
-turn-good A false last free line n m e more g g′ p q a b h = absurd (eqb-false n 0 p h)
-
--- text after the end record would make the number 15 or 16
-ended-if : (missed : Bool) (line : ℕ) (ls : List (List ℕ))
-    → cond missed (at line 15) (cond (some (map intelHex ls)) (at (line + 1) 16) (at line 0)) .number ≡ 0 → Every Good ls
-ended-if true line ls h = absurd (omega arith)
-ended-if false line [] h = tt
-ended-if false line (l ∷ ls) h = absurd (omega arith)
+-- nothing follows the end record of a text that is taken
+none : (ls : List (List ℕ)) → some (map intelHex ls) ≡ false → Every Good ls
+none [] e = tt
+none (l ∷ ls) e = absurd (omega (arith, ap (λ (t : Bool). cond {A = ℕ} t 1 0) e))
 
 walk-good : (line : ℕ) (ls : List (List ℕ)) (g : List ℕ) → walk line (map intelHex ls) g .number ≡ 0 → Every Good ls
-unfolding walk intelHex ended
+unfolding intelHex
 walk-good line [] g h = tt
 walk-good line (l ∷ ls) g h =
-    let r = intelHex l in
-    let rs = map intelHex ls in
-    let p = give (r .address) (r .bytes) g in
-    turn-good (Every Good ls) (eqb (r .number) 0) (r .last) (eqb (p .number) 0) (line + 1) (r .number) (p .number) (ended (line + 1) (some rs) g)
-    (walk (line + 1) rs (p .bytes)) g (p .bytes) refl refl (ended-if (missing g) (line + 1) ls) (walk-good (line + 1) ls (p .bytes)) h
+    first line (intelHex l) (map intelHex ls) g h (λ n last m e. (n, none ls e))
+    (λ n last g′ gave e. (n, walk-good (line + 1) ls g′ (sym (ap (λ (w : Walked). w .number) e) ∙ h)))
 
 -- each line of a text that is taken is good
 pub load-good : (width size : ℕ) (text image : List ℕ) → load intelHex width size text image .number ≡ 0 → Every Good (lines text)

@@ -11,6 +11,7 @@ use borrow.Author.Tests.{eq-eqb, ne-eqb, eqb-true, eqb-false, ltb-true, ltb-fals
 use Rattle.numbers.specs.Every.{Every}
 use Rattle.image.specs.Image.{Given, given, give, missing}
 use Rattle.image.proofs.Giving.{give-free}
+use Rattle.image.proofs.Fills.{neither}
 use Rattle.image.proofs.Order.{was-free, free-inside}
 use Rattle.loads.specs.Given.{from, times}
 
@@ -71,10 +72,6 @@ give-fits (b ∷ bs) a g s h =
     ∙ give-fits bs (a + 1) (set g a b) (s .1) (λ x. omega (arith, h x, set-if g a b x (eqb a x) refl f (s .0)))
 
 -- nothing is missing where nothing is free
-neither : (a b : Bool) → (a || b) ≡ false → (a ≡ false) × (b ≡ false)
-neither true b h = absurd (omega (arith, ap (λ (t : Bool). cond {A = ℕ} t 1 0) h))
-neither false b h = (refl, h)
-
 pub none-free : (g : List ℕ) → missing g ≡ false → (x : ℕ) → free g x ≡ 0
 unfolding missing free
 none-free [] m x = refl

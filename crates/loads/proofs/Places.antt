@@ -18,12 +18,13 @@ use Rattle.image.specs.Image.{Given, given, give, Walked, at, walk, value, cell
 use Rattle.image.proofs.Giving.{give-free}
 use Rattle.image.proofs.Order.{was-free, free-inside}
 use Rattle.image.proofs.Walking.{walk-last}
+use Rattle.image.proofs.Taking.{never, first}
 use Rattle.image.proofs.Fills.{cells-length, cells-at}
 use Rattle.image.proofs.Loads.{blank, walk-taken, load-short, load-taken}
 use Rattle.loads.specs.Given.{gives, byteFor, bytesFor}
 use Rattle.loads.specs.Promises.{records, InItsPlace}
 use Rattle.loads.proofs.Free.{Bytes, none-free, is-free}
-use Rattle.loads.proofs.Taken.{Sound, never, first, all-sound}
+use Rattle.loads.proofs.Taken.{Sound, all-sound}
 
 -- a byte that is given elsewhere leaves a place as it is
 elsewhere : (x : ℕ) (bs : List ℕ) (a : ℕ) (g g′ : List ℕ) → give a bs g ≡ given 0 g′ → (a ≤ x → x < a + length bs → ⊥) → getD g′ x 0 ≡ getD g x 0

@@ -13,9 +13,10 @@ use Rattle.image.specs.Lines.{lines}
 use Rattle.image.specs.Record.{Record}
 use Rattle.image.specs.IntelHex.{dataLength, recordType, recordHead, dataPart, intelHex}
 use Rattle.image.specs.declared.record.RecordHead.{RecordHead}
-use Rattle.image.specs.Image.{given, give, missing, Walked, at, ended, unended, some, walk, Loaded}
+use Rattle.image.specs.Image.{given, give, missing, Walked, at, ended, walk, Loaded}
 use Rattle.image.proofs.Records.{formed-has, good, head-good, length-good, refused-length}
-use Rattle.image.proofs.Walking.{walk-refused, walk-last, walk-on, walk-outside}
+use Rattle.image.proofs.Walking.{walk-last, walk-on}
+use Rattle.image.proofs.Taking.{never, first}
 use Rattle.image.proofs.Loads.{blank, walk-taken, load-taken}
 use Rattle.loads.specs.Given.{Closed, from, addresses, times}
 use Rattle.loads.specs.Promises.{records, TakenExactly}
@@ -24,53 +25,6 @@ use Rattle.loads.proofs.Free.{Bytes, free, give-counts, give-fits, none
 -- a record of bytes, and without any if it ends the text
 abbrev pub Sound : Record → Type 0
 Sound r = Bytes (r .bytes) × (r .last ≡ true → r .bytes ≡ [])
-
-ended-if : (line : ℕ) (m after : Bool) → cond m (at line 15) (cond after (at (line + 1) 16) (at line 0)) .number ≡ 0 → (m ≡ false) × (after ≡ false)
-ended-if line true after h = absurd (omega arith)
-ended-if line false true h = absurd (omega arith)
-ended-if line false false h = (refl, refl)
-
--- after the end record of a text that is taken nothing is missing and nothing follows
-ended-well : (line : ℕ) (after : Bool) (g : List ℕ) → ended line after g .number ≡ 0 → (missing g ≡ false) × (after ≡ false)
-unfolding ended
-ended-well line after g = ended-if line (missing g) after
-
-unended-if : (line : ℕ) (m : Bool) → cond m (at line 15) (at line 16) .number ≡ 0 → ⊥
-unended-if line true h = omega arith
-unended-if line false h = omega arith
-
--- a text without an end record is not taken
-pub never : (line : ℕ) (g : List ℕ) → walk line [] g .number ≡ 0 → ⊥
-unfolding walk unended
-never line g = unended-if line (missing g)
-
--- the first record of a walk that is taken ends it, or is put at its addresses
-module _ {A : Type 0} (line : ℕ) (r : Record) (rs : List Record) (g : List ℕ) (h : walk line (r ∷ rs) g .number ≡ 0)
-    (ends : r .number ≡ 0 → r .last ≡ true → missing g ≡ false → some rs ≡ false → A)
-    (goes : r .number ≡ 0 → r .last ≡ false → (g′ : List ℕ) → give (r .address) (r .bytes) g ≡ given 0 g′ → walk line (r ∷ rs) g ≡ walk (line + 1) rs g′ → A) where
-  by : {w : Walked} → walk line (r ∷ rs) g ≡ w → w .number ≡ 0
-  by e = sym (ap (λ (w : Walked). w .number) e) ∙ h
-
-  first-if : (good last fits : Bool) → eqb (r .number) 0 ≡ good → r .last ≡ last → eqb (give (r .address) (r .bytes) g .number) 0 ≡ fits → A
-  first-if true true fits b l f =
-      let n = eqb-true _ _ b in
-      let e = ended-well (line + 1) (some rs) g (by (walk-last line r rs g n l)) in
-      ends n l (e .0) (e .1)
-  first-if true false true b l f =
-      let n = eqb-true _ _ b in
-      let p = give (r .address) (r .bytes) g in
-      let gave : p ≡ given 0 (p .bytes) = ap (λ (k : ℕ). given k (p .bytes)) (eqb-true _ _ f) in
-      goes n l (p .bytes) gave (walk-on line r rs g n l (p .bytes) gave)
-  first-if true false false b l f =
-      let p = give (r .address) (r .bytes) g in
-      let z = eqb-false _ _ f in
-      absurd (z (by (walk-outside line r rs g (eqb-true _ _ b) l (p .number) (p .bytes) refl z)))
-  first-if false last fits b l f =
-      let z = eqb-false _ _ b in
-      absurd (z (by (walk-refused line r rs g z)))
-
-  pub first : A
-  first = first-if (eqb (r .number) 0) (r .last) (eqb (give (r .address) (r .bytes) g .number) 0) refl refl refl
 
 times-append : (x : ℕ) (ks ls : List ℕ) → times x (ks ++ ls) ≡ times x ks + times x ls
 times-append x [] ls = omega arith
