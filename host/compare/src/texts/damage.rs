@@ -4,8 +4,21 @@ use super::made::Made;
 use super::record::Record;
 use random::Random;
 
-#[derive(Clone, Copy, Debug, PartialEq, Eq)]
-pub enum Damage {
+/// Each kind of damage once: its name, and its place in the list of all.
+macro_rules! damages {
+    ($($name:ident),*) => {
+        #[derive(Clone, Copy, Debug, PartialEq, Eq)]
+        pub enum Damage {
+            $($name),*
+        }
+
+        impl Damage {
+            pub const ALL: &'static [Damage] = &[$(Damage::$name),*];
+        }
+    };
+}
+
+damages!(
     ByteChanged,
     ByteDropped,
     ByteDoubled,
@@ -23,33 +36,12 @@ pub enum Damage {
     EndMoved,
     EndDropped,
     TextBehind,
-    SeveralFaults,
-}
+    SeveralFaults
+);
 
 use Damage::*;
 
 impl Damage {
-    pub const ALL: [Damage; 18] = [
-        ByteChanged,
-        ByteDropped,
-        ByteDoubled,
-        ByteInserted,
-        Cut,
-        LinesSwapped,
-        LineDropped,
-        LineDoubled,
-        BlankLine,
-        EndingDropped,
-        CheckByte,
-        RecordType,
-        AddressMoved,
-        EndWithData,
-        EndMoved,
-        EndDropped,
-        TextBehind,
-        SeveralFaults,
-    ];
-
     /// The text of what was made, damaged in this way.
     pub fn done(self, random: &mut Random, made: &Made) -> Vec<u8> {
         if self == SeveralFaults {

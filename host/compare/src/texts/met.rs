@@ -52,7 +52,7 @@ impl Met {
             }
         }
         for damage in Damage::ALL {
-            if self.refused[damage as usize] == 0 {
+            if self.refused[*damage as usize] == 0 {
                 missing.push(format!("a refused text with the damage {damage:?}"));
             }
         }

@@ -52,7 +52,7 @@ fn of_one_image(random: &mut Random, number: u64, met: &mut Met) -> Result<u64, 
     made.reorder(random);
     both.give_all(&made.text(), &made.bytes)?;
     for _ in 2..TEXTS {
-        let damage = random.pick(&Damage::ALL);
+        let damage = random.pick(Damage::ALL);
         let text = damage.done(random, &made);
         let decided = both.give(&text)?;
         met.damaged(damage, decided, &text);
