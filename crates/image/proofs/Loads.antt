@@ -1,14 +1,15 @@
 -- The three ways in which a load ends. Assumes nothing.
 use mathlib.Core.Path.{_≡_, refl, sym, ap, _∙_}
 use mathlib.Core.Bool.{Bool, true, false, cond}
-use mathlib.Core.List.{List, map}
-use Prim.Native.Nat.{ℕ, _*_}
+use mathlib.Core.List.{List, _∷_, map}
+use Prim.Native.Nat.{ℕ, zero, suc, _*_, _≤_, min}
 use native.Mathlib.Omega.{arith}
-use lib.ListN.{length, replicate}
+use lib.ListN.{length, take, replicate}
 use lib.Dec.{eqb}
 use borrow.Author.Tests.{eq-eqb, ne-eqb}
 use Rattle.image.specs.Lines.{lines}
 use Rattle.image.specs.Record.{Record}
+use Rattle.image.specs.IntelHex.{intelHex}
 use Rattle.image.specs.Image.{Walked, walked, at, walk, cells, Loaded, loaded, load}
 use Rattle.image.specs.declared.text.Loading.{Loading}
 
@@ -29,6 +30,24 @@ module _ (form : List ℕ → Record) (width size : ℕ) (text image : List ℕ)
     pub load-taken : end .number ≡ 0 → load form width size text image ≡ loaded end (cells width size g)
     unfolding load
     load-taken z = rw (← p, eq-eqb _ _ s, eq-eqb (end .number) 0 z)
+
+-- the bound on an image's cells does not matter to one of as many as are asked for
+pub load-all : (form : List ℕ → Record) (width most size : ℕ) (text image : List ℕ) {x : Loaded} → length image ≡ size → size ≤ most
+    → x ≡ load form width (min (length image) most) text image → x ≡ load form width size text image
+load-all form width most size text image e h p =
+    let same : min (length image) most ≡ size = omega arith in
+    p ∙ ap (λ (n : ℕ). load form width n text image) same
+
+-- a walk over room in which nothing was given yet
+pub walk-blank : (width size : ℕ) (text g : List ℕ) {w : Walked} → g ≡ blank width size → w ≡ walk 0 (map intelHex (lines text)) g
+    → w ≡ walk 0 (map intelHex (lines text)) (blank width size)
+walk-blank width size text g e p = p ∙ ap (walk 0 (map intelHex (lines text))) e
+
+-- a part of places that are all free
+pub take-replicate : (n m : ℕ) → n ≤ m → take n (replicate {A = ℕ} m 256) ≡ replicate n 256
+take-replicate zero m h = refl
+take-replicate (suc n) zero h = absurd (omega arith)
+take-replicate (suc n) (suc m) h = ap (λ (l : List ℕ). 256 ∷ l) (take-replicate n m (omega arith))
 
 -- the same by the tests
 unfoldable pub outcome : ℕ → ℕ → List ℕ → Walked → Bool → Bool → Loaded

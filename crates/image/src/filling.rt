@@ -1,7 +1,7 @@
 // A lent image filled from a text, whole or not at all.
 ghost use mathlib.Core.Path.{_≡_};
-ghost use Prim.Native.Nat.{ℕ, _+_, _*_, _<_};
-ghost use lib.ListN.{length, getD};
+ghost use Prim.Native.Nat.{ℕ, _+_, _*_, _<_, min};
+ghost use lib.ListN.{length, getD, replicate};
 ghost use Rattle.device.specs.Device.{upd77p20};
 ghost use Rattle.image.specs.IntelHex.{intelHex};
 ghost use Rattle.image.specs.Image as spec;
@@ -66,6 +66,33 @@ pub fn load_program(text: &[u8], image: &mut [u32]) -> Loading
     end
 }
 
+// Fills a lent image of cells of two bytes, with room for what the text gives.
+pub(crate) fn load_with(text: &[u8], given: &mut [u16], image: &mut [u16]) -> Loading
+    requires { ⌜ now given ≡ replicate (2 * length (now image)) 256 ⌝ }
+    ensures { λ r. ⌜ spec.loaded r (now (image .exit)) ≡ spec.load intelHex 2 (length (now (image .entry))) (now (text .entry)) (now (image .entry)) ⌝ }
+{
+    let end = walk(text, given);
+    let number = end.number;
+    if number != 0 {
+        return end;
+    }
+    fill_2(given, image);
+    end
+}
+
+// The same of up to as many cells as a data ROM has.
+pub fn load_cells(text: &[u8], image: &mut [u16]) -> Loading
+    ensures { λ r. ⌜ spec.loaded r (now (image .exit)) ≡ spec.load intelHex 2 (min (length (now (image .entry))) (upd77p20 .cells)) (now (text .entry)) (now (image .entry)) ⌝ }
+{
+    let n = image.len();
+    if (Upd77p20::CELLS as usize) < n {
+        return Loading { number: 1, line: 0 };
+    }
+    let mut given = [256u16; 1024];
+    let size = 2 * n;
+    load_with(text, &mut given[0..size], image)
+}
+
 // Fills a lent data ROM.
 pub fn load_data(text: &[u8], image: &mut [u16]) -> Loading
     ensures { λ r. ⌜ spec.loaded r (now (image .exit)) ≡ spec.load intelHex 2 (upd77p20 .cells) (now (text .entry)) (now (image .entry)) ⌝ }
@@ -73,12 +100,5 @@ pub fn load_data(text: &[u8], image: &mut [u16]) -> Loading
     if image.len() != (Upd77p20::CELLS as usize) {
         return Loading { number: 1, line: 0 };
     }
-    let mut bytes = [256u16; 1024];
-    let end = walk(text, &mut bytes);
-    let number = end.number;
-    if number != 0 {
-        return end;
-    }
-    fill_2(&bytes, image);
-    end
+    load_cells(text, image)
 }

@@ -4,6 +4,7 @@ mod filling;
 mod record;
 mod text;
 
+pub use filling::load_cells;
 pub use filling::load_data;
 pub use filling::load_program;
 pub use record::RecordHead;
