@@ -4,20 +4,16 @@ use mathlib.Core.Path.{_≡_, refl}
 use mathlib.Core.Bool.{Bool, true, _&&_}
 use mathlib.Core.List.{List, [], _∷_}
 use Prim.Native.Nat.{ℕ}
-use Prim.Native.Char.{code}
-use Prim.Native.String.{String, [] as done, _∷_ as _then_}
+use Prim.Native.String.{String}
 use lib.ListN.{getD}
 use lib.Dec.{eqb}
+use Rattle.image.specs.Quoted.{quoted}
 use Rattle.image.specs.Hexadecimal.{digit, byte, byteAt, bytesOf, allDigits, total}
 use Rattle.image.specs.Lines.{lines}
 use Rattle.image.specs.IntelHex.{ending, formed, said, recordHead, dataPart, dataStart, intelHex}
-use Rattle.image.specs.Image.{give, missing, at, ended, unended, walk, value, cells, loaded, load}
+use Rattle.image.specs.Image.{give, missing, at, ended, unended, walk, value, cells, lowFirst, cellBytes, loaded, load}
 
 infix 68 _gives_line_and_
-characters : String → List ℕ
-characters done = []
-characters (_then_ c s) = code c ∷ characters s
-
 record Case : Type 0 where
   text : String
   number : ℕ
@@ -28,9 +24,9 @@ _gives_line_and_ : String → ℕ → ℕ → ℕ → Case
 t gives n line l and c = record { text = t; number = n; line = l; cell = c }
 
 holds : Case → Bool
-unfolding characters
+unfolding quoted
 holds k =
-    let r = load intelHex 2 1 (characters (k .text)) (7 ∷ []) in
+    let r = load intelHex 2 1 (quoted (k .text)) (7 ∷ []) in
     eqb (r .number) (k .number) && (eqb (r .line) (k .line) && eqb (getD (r .image) 0 0) (k .cell))
 
 allHold : List Case → Bool
@@ -84,28 +80,33 @@ cases =
     ∷ []
 
 hold : allHold cases ≡ true
-unfolding cases allHold holds characters _gives_line_and_ load walk lines intelHex recordHead said give missing ended unended value cells formed ending
+unfolding cases allHold holds quoted _gives_line_and_ load walk lines intelHex recordHead said give missing ended unended value cells formed ending
     allDigits total bytesOf byteAt byte digit dataPart
 hold = refl
 
 -- cells of four bytes, and of two one after the other, low byte first
-four : load intelHex 4 1 (characters ":0400000078563412E8\n:00000001FF\n") (7 ∷ []) ≡ loaded (at 2 0) (0x12345678 ∷ [])
-unfolding characters load walk lines intelHex recordHead said give missing ended unended value cells formed ending allDigits total bytesOf byteAt byte
+four : load intelHex 4 1 (quoted ":0400000078563412E8\n:00000001FF\n") (7 ∷ []) ≡ loaded (at 2 0) (0x12345678 ∷ [])
+unfolding quoted load walk lines intelHex recordHead said give missing ended unended value cells formed ending allDigits total bytesOf byteAt byte
     digit dataPart
 four = refl
 
-two : load intelHex 2 2 (characters ":0400000078563412E8\n:00000001FF\n") (7 ∷ 8 ∷ []) ≡ loaded (at 2 0) (0x5678 ∷ 0x1234 ∷ [])
-unfolding characters load walk lines intelHex recordHead said give missing ended unended value cells formed ending allDigits total bytesOf byteAt byte
+two : load intelHex 2 2 (quoted ":0400000078563412E8\n:00000001FF\n") (7 ∷ 8 ∷ []) ≡ loaded (at 2 0) (0x5678 ∷ 0x1234 ∷ [])
+unfolding quoted load walk lines intelHex recordHead said give missing ended unended value cells formed ending allDigits total bytesOf byteAt byte
     digit dataPart
 two = refl
 
+-- and back: the bytes of cells, low byte first
+bytes : (cellBytes 2 (0x5678 ∷ 0x1234 ∷ []) ≡ 0x78 ∷ 0x56 ∷ 0x34 ∷ 0x12 ∷ []) × (cellBytes 4 (0x12345678 ∷ []) ≡ 0x78 ∷ 0x56 ∷ 0x34 ∷ 0x12 ∷ [])
+unfolding cellBytes lowFirst
+bytes = (refl, refl)
+
 -- an image of the wrong length, before the text
-short : load intelHex 2 1 (characters "x") (7 ∷ 8 ∷ []) ≡ loaded (at 0 1) (7 ∷ 8 ∷ [])
-unfolding characters load
+short : load intelHex 2 1 (quoted "x") (7 ∷ 8 ∷ []) ≡ loaded (at 0 1) (7 ∷ 8 ∷ [])
+unfolding quoted load
 short = refl
 
 -- the part of a data record, of an end record and of a refused one, and where it begins
-part : (dataPart (characters ":020000003412B8\r\n") ≡ characters "3412") × (dataStart (characters ":020000003412B8\r\n") ≡ 9)
-    × (dataPart (characters ":00000001FF\n") ≡ []) × (dataPart (characters ":020000003412B9\n") ≡ []) × (dataStart (characters ":020000003412B9\n") ≡ 0)
-unfolding characters recordHead said formed ending allDigits total bytesOf byteAt byte digit dataPart dataStart
+part : (dataPart (quoted ":020000003412B8\r\n") ≡ quoted "3412") × (dataStart (quoted ":020000003412B8\r\n") ≡ 9)
+    × (dataPart (quoted ":00000001FF\n") ≡ []) × (dataPart (quoted ":020000003412B9\n") ≡ []) × (dataStart (quoted ":020000003412B9\n") ≡ 0)
+unfolding quoted recordHead said formed ending allDigits total bytesOf byteAt byte digit dataPart dataStart
 part = (refl, refl, refl, refl, refl)

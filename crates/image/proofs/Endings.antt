@@ -6,16 +6,16 @@ use Prim.Native.Nat.{ℕ, zero, suc, _+_, _-_, _*_, _<_, _≤_}
 use native.Mathlib.Omega.{arith}
 use lib.ListN.{length, getD, take, drop, length-append, List·getD-append}
 use lib.Seq.{length-take-le, take-append-le, take-take, getD-take, getD-append-add}
-use borrow.Author.Tests.{le-leb, eq-eqb, ne-eqb}
+use borrow.Author.Tests.{ne-eqb}
 use Rattle.numbers.specs.Every.{Every}
 use Rattle.image.specs.Hexadecimal.{byteAt, bytesOf}
 use Rattle.image.specs.Lines.{lines, joined}
-use Rattle.image.specs.IntelHex.{ending, characters, dataLength, formed, recordHead, dataPlace, dataPart, intelHex}
+use Rattle.image.specs.IntelHex.{ending, characters, formed, recordHead, dataPlace, dataPart, intelHex}
 use Rattle.image.specs.Record.{Record}
 use Rattle.image.specs.Image.{walk}
 use Rattle.image.specs.Promises.{chosenEnding, withEnding, retold, EitherEnding}
 use Rattle.image.specs.declared.record.RecordHead.{RecordHead}
-use Rattle.image.proofs.Records.{good, ending-near, length-good, head-by}
+use Rattle.image.proofs.Records.{formed-by, good, ending-near, length-good, head-by}
 use Rattle.image.proofs.Walking.{records, record-by}
 use Rattle.image.proofs.Loads.{blank, load-by}
 use Rattle.image.proofs.Proper.{Plain, Good, fine, body-plain, lines-joined, load-good}
@@ -26,7 +26,7 @@ plain-at (c ∷ b) zero p h = p .0
 plain-at (c ∷ b) (suc i) p h = plain-at b i (p .1) (omega arith)
 
 -- before a line feed alone stands the last plain character, not a carriage return; of two, the carriage return stands where the plain ones end
-ending-place : (short : Bool) (b : List ℕ) → Plain b → 0 < length b → ending (b ++ chosenEnding short) ≡ length b
+pub ending-place : (short : Bool) (b : List ℕ) → Plain b → 0 < length b → ending (b ++ chosenEnding short) ≡ length b
 unfolding ending
 ending-place true b p h =
     let e : List ℕ = 10 ∷ [] in
@@ -93,20 +93,17 @@ module _ (short : Bool) (l : List ℕ) (h : Good l) where
       rw k (getD-append-add body end (length end - 1) 0 ∙ ending-feed short)
 
   same-formed : formed told ≡ true
-  unfolding formed
   same-formed =
       let f = fine l h in
-      rw (
-        le-leb 12 (length told) (omega (arith, length-append body end, body-length, ending-some short, f .fits)),
-        eq-eqb (getD told 0 0) 58 (same-at 0 (omega (arith, f .fits)) ∙ f .colon),
-        eq-eqb (getD told (length told - 1) 0) 10 same-feed,
-        same-characters,
-        f .digits,
-        same-ending,
-        same-byte 1 (omega arith),
-        same-byte 7 (omega arith),
-        eq-eqb (ending l) (11 + 2 * dataLength l) (f .fits),
-      ) (f .bare)
+      formed-by told
+      (record {
+        long = omega (arith, length-append body end, body-length, ending-some short, f .fits);
+        colon = same-at 0 (omega (arith, f .fits)) ∙ f .colon;
+        line-feed = same-feed;
+        digits = rw same-characters (f .digits);
+        fits = same-ending ∙ f .fits ∙ ap (λ (n : ℕ). 11 + 2 * n) (sym (same-byte 1 (omega arith)));
+        bare = rw (same-byte 1 (omega arith), same-byte 7 (omega arith)) (f .bare);
+      })
 
   same-head : recordHead told ≡ recordHead l
   same-head = head-by l told (same-formed ∙ sym (good l h .0)) (rw same-characters) same-byte

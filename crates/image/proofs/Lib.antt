@@ -7,6 +7,8 @@ pub mod Walking
 pub mod Taking
 pub mod Fills
 pub mod Loads
+pub mod Members
+pub mod CellBytes
 pub mod Proper
 pub mod Promises
 pub mod Order

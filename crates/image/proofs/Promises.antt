@@ -9,7 +9,7 @@ use lib.Dec.{eqb}
 use borrow.Author.Tests.{eqb-true, eqb-false}
 use Rattle.image.specs.Lines.{lines, onto, joined}
 use Rattle.image.specs.IntelHex.{intelHex}
-use Rattle.image.specs.Image.{Walked, walk, cells, Loaded, loaded, at, load}
+use Rattle.image.specs.Image.{Walked, walk, Loaded, loaded, at}
 use Rattle.image.specs.Promises.{OneAnswer, Untouched, Replaced, Whole}
 use Rattle.image.proofs.Walking.{records}
 use Rattle.image.proofs.Loads.{blank, outcome, outcome-is}

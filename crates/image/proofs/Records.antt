@@ -6,7 +6,7 @@ use Prim.Native.Nat.{ℕ, _+_, _-_, _*_, _<_, _≤_}
 use native.Mathlib.Omega.{arith}
 use lib.ListN.{length, getD, take, drop}
 use lib.Dec.{eqb, ltb, leb}
-use borrow.Author.Tests.{leb-true, eqb-true, eq-eqb, ne-eqb, lt-ltb, le-ltb, ltb-false}
+use borrow.Author.Tests.{leb-true, le-leb, eqb-true, eq-eqb, ne-eqb, lt-ltb, le-ltb, ltb-false}
 use Rattle.image.specs.Hexadecimal.{byteAt, allDigits}
 use Rattle.image.specs.IntelHex.{characters, recordType, dataLength, address, ending, formed, checked, refused, said, recordHead, dataPlace, dataPart, dataStart}
 use Rattle.image.specs.declared.record.RecordHead.{RecordHead}
@@ -51,6 +51,17 @@ formed-has l h =
       fits = eqb-true (ending l) (11 + 2 * dataLength l) (left (eqb (ending l) (11 + 2 * dataLength l)) _ h4);
       bare = right (eqb (ending l) (11 + 2 * dataLength l)) _ h4;
     }
+
+pub formed-by : (l : List ℕ) → Formed l → formed l ≡ true
+unfolding formed
+formed-by l f =
+    rw (
+      le-leb 12 (length l) (f .long),
+      eq-eqb (getD l 0 0) 58 (f .colon),
+      eq-eqb (getD l (length l - 1) 0) 10 (f .line-feed),
+      f .digits,
+      eq-eqb (ending l) (11 + 2 * dataLength l) (f .fits),
+    ) (f .bare)
 
 -- the four ways in which a record is read
 module _ (l : List ℕ) where

@@ -1,7 +1,7 @@
 -- A text of records, and the image that it fills.
 use mathlib.Core.Bool.{Bool, true, false, cond, _||_}
-use mathlib.Core.List.{List, [], _∷_, map}
-use Prim.Native.Nat.{ℕ, zero, suc, _+_, _*_}
+use mathlib.Core.List.{List, [], _∷_, _++_, map}
+use Prim.Native.Nat.{ℕ, zero, suc, _+_, _*_, _/_, _%_}
 use lib.ListN.{length, getD, take, drop, set, replicate}
 use lib.Dec.{eqb}
 use Rattle.image.specs.Lines.{lines}
@@ -71,6 +71,15 @@ value (b ∷ bs) = b + 256 * value bs
 unfoldable pub cells : ℕ → ℕ → List ℕ → List ℕ
 cells width zero bytes = []
 cells width (suc size) bytes = value (take width bytes) ∷ cells width size (drop width bytes)
+
+-- and back: the bytes of a number, and of cells one after the other
+unfoldable pub lowFirst : ℕ → ℕ → List ℕ
+lowFirst zero v = []
+lowFirst (suc width) v = v % 256 ∷ lowFirst width (v / 256)
+
+unfoldable pub cellBytes : ℕ → List ℕ → List ℕ
+cellBytes width [] = []
+cellBytes width (v ∷ vs) = lowFirst width v ++ cellBytes width vs
 
 -- what a call leaves: the number, the line that decided (0 where none was looked at), and the image
 pub record Loaded : Type 0 where

@@ -1,3 +1,4 @@
+pub mod Quoted
 pub mod Hexadecimal
 pub mod Lines
 pub mod Record

@@ -8,16 +8,12 @@ use lib.ListN.{length, getD, set, replicate, getD-replicate, length-replicate, L
 use lib.Seq.{getD-set-same, getD-set-other}
 use lib.Dec.{eqb, ltb}
 use borrow.Author.Tests.{eq-eqb, ne-eqb, eqb-true, eqb-false, ltb-true, ltb-false}
-use Rattle.numbers.specs.Every.{Every}
 use Rattle.image.specs.Image.{Given, given, give, missing}
+use Rattle.image.proofs.CellBytes.{Bytes}
 use Rattle.image.proofs.Giving.{give-free}
 use Rattle.image.proofs.Fills.{neither}
 use Rattle.image.proofs.Order.{was-free, free-inside}
 use Rattle.loads.specs.Given.{from, times}
-
--- numbers that are bytes, and not the mark of a free place
-abbrev pub Bytes : List ℕ → Type 0
-Bytes = Every (λ b. b < 256)
 
 -- 1 if no byte was given yet for an address of the image
 pub free : List ℕ → ℕ → ℕ

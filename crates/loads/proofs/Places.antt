@@ -15,6 +15,7 @@ use Rattle.image.specs.Lines.{lines}
 use Rattle.image.specs.Record.{Record}
 use Rattle.image.specs.IntelHex.{intelHex}
 use Rattle.image.specs.Image.{Given, given, give, Walked, at, walk, value, cells, Loaded, load}
+use Rattle.image.proofs.CellBytes.{Bytes}
 use Rattle.image.proofs.Giving.{give-free}
 use Rattle.image.proofs.Order.{was-free, free-inside}
 use Rattle.image.proofs.Walking.{walk-last}
@@ -23,7 +24,7 @@ use Rattle.image.proofs.Fills.{cells-length, cells-at}
 use Rattle.image.proofs.Loads.{blank, walk-taken, load-short, load-taken}
 use Rattle.loads.specs.Given.{gives, byteFor, bytesFor}
 use Rattle.loads.specs.Promises.{records, InItsPlace}
-use Rattle.loads.proofs.Free.{Bytes, none-free, is-free}
+use Rattle.loads.proofs.Free.{none-free, is-free}
 use Rattle.loads.proofs.Taken.{Sound, all-sound}
 
 -- a byte that is given elsewhere leaves a place as it is

@@ -2,25 +2,26 @@
 use mathlib.Core.Path.{_≡_, refl, sym, ap, _∙_}
 use mathlib.Core.Bool.{Bool, true, false, cond, not, _&&_}
 use mathlib.Core.List.{List, [], _∷_, _++_, map}
-use Prim.Native.Nat.{ℕ, _+_, _*_, _<_}
+use Prim.Native.Nat.{ℕ, _+_, _*_}
 use native.Mathlib.Omega.{arith}
-use lib.ListN.{length, take, drop}
+use lib.ListN.{take, drop}
 use lib.Dec.{eqb}
 use borrow.Author.Tests.{eq-eqb, eqb-true, eqb-false}
 use Rattle.numbers.specs.Every.{Every}
-use Rattle.image.specs.Hexadecimal.{byte, bytesOf}
+use Rattle.image.specs.Hexadecimal.{bytesOf}
 use Rattle.image.specs.Lines.{lines}
 use Rattle.image.specs.Record.{Record}
 use Rattle.image.specs.IntelHex.{dataLength, recordType, recordHead, dataPart, intelHex}
 use Rattle.image.specs.declared.record.RecordHead.{RecordHead}
 use Rattle.image.specs.Image.{given, give, missing, Walked, at, ended, walk, Loaded}
+use Rattle.image.proofs.CellBytes.{Bytes, bytes-below}
 use Rattle.image.proofs.Records.{formed-has, good, head-good, length-good, refused-length}
 use Rattle.image.proofs.Walking.{walk-last, walk-on}
 use Rattle.image.proofs.Taking.{never, first}
 use Rattle.image.proofs.Loads.{blank, walk-taken, load-taken}
 use Rattle.loads.specs.Given.{Closed, from, addresses, times}
 use Rattle.loads.specs.Promises.{records, TakenExactly}
-use Rattle.loads.proofs.Free.{Bytes, free, give-counts, give-fits, none-free, none-missing, blank-free}
+use Rattle.loads.proofs.Free.{free, give-counts, give-fits, none-free, none-missing, blank-free}
 
 -- a record of bytes, and without any if it ends the text
 abbrev pub Sound : Record → Type 0
@@ -70,17 +71,6 @@ owed-taken line (r ∷ q ∷ rs) g s c o =
     ap (λ (w : Walked). w .number) (walk-on line r (q ∷ rs) g (c .0) (c .1) (p .bytes) gave)
     ∙ owed-taken (line + 1) (q ∷ rs) (p .bytes) (s .1) (c .2)
     (λ x. omega (arith, o x, times-first x r (q ∷ rs), give-counts (r .bytes) (r .address) g (p .bytes) (s .0 .0) gave x))
-
--- what two hexadecimal characters spell is a byte
-byte-below : (high low : ℕ) → byte high low < 256
-unfolding byte
-byte-below high low = omega arith
-
-bytes-below : (cs : List ℕ) → Bytes (bytesOf cs)
-unfolding bytesOf
-bytes-below [] = tt
-bytes-below (high ∷ []) = tt
-bytes-below (high ∷ low ∷ cs) = (byte-below high low, bytes-below cs)
 
 bare-if : (t d : ℕ) (e : Bool) → eqb d 0 ≡ e → not (eqb t 1 && not e) ≡ true → t ≡ 1 → d ≡ 0
 bare-if t d true q h k = eqb-true d 0 q

@@ -4,13 +4,13 @@ use mathlib.Core.Path.{_≡_, refl, ap, _∙_}
 use mathlib.Core.Bool.{Bool, true, false, cond, not, _&&_, and-eq-true-iff}
 use mathlib.Core.List.{List, [], _∷_, _++_}
 use Prim.Native.Nat.{ℕ, _+_, _*_, _<_, _≤_}
-use Prim.Native.Char.{code}
-use Prim.Native.String.{String, [] as done, _∷_ as _then_}
+use Prim.Native.String.{String}
 use native.Mathlib.Omega.{arith}
 use lib.ListN.{length, replicate, length-replicate}
 use lib.Dec.{eqb, ltb}
 use borrow.Author.Tests.{eqb-true, eqb-false, ne-eqb, ltb-true, ltb-false, not-true}
 use Rattle.device.specs.Device.{upd77p20, wordLimit, cellLimit}
+use Rattle.image.specs.Quoted.{quoted}
 use Rattle.image.specs.Hexadecimal.{digit, byte, byteAt, bytesOf, allDigits, total}
 use Rattle.image.specs.Lines.{lines}
 use Rattle.image.specs.Record.{Record}
@@ -20,13 +20,9 @@ use Rattle.loads.specs.Given.{Closed, from, addresses, times, ExactlyOnc
 use Rattle.loads.specs.Promises.{records, valueGiven, TakesWide}
 use Rattle.loads.proofs.Taken.{taken-exactly}
 
-characters : String → List ℕ
-characters done = []
-characters (_then_ c s) = code c ∷ characters s
-
 -- a record of so many bytes FFH between its head and its check byte
 ones : String → ℕ → String → List ℕ
-ones head bytes check = characters head ++ replicate (2 * bytes) 70 ++ characters check
+ones head bytes check = quoted head ++ replicate (2 * bytes) 70 ++ quoted check
 
 program : List ℕ
 program =
@@ -39,7 +35,7 @@ program =
     ++ ones ":FF05FA00" 255 "01\n"
     ++ ones ":FF06F900" 255 "01\n"
     ++ ones ":0807F800" 8 "01\n"
-    ++ characters ":00000001FF\n"
+    ++ quoted ":00000001FF\n"
 
 rom : List ℕ
 rom =
@@ -48,7 +44,7 @@ rom =
     ++ ones ":FF01FE00" 255 "01\n"
     ++ ones ":FF02FD00" 255 "01\n"
     ++ ones ":0403FC00" 4 "01\n"
-    ++ characters ":00000001FF\n"
+    ++ quoted ":00000001FF\n"
 
 -- whether the last record, and no other, ends the text, and all are good
 ends : List Record → Bool
@@ -91,13 +87,13 @@ in-order size text e x =
     ∙ ap (λ (n : ℕ). cond {A = ℕ} (ltb x n) 1 0) (length-replicate {A = ℕ} size 0)
 
 pub takes-wide-words : TakesWide 4 (upd77p20 .words) (wordLimit upd77p20)
-unfolding program ends ones characters lines intelHex recordHead said value formed ending allDigits total bytesOf byteAt byte digit dataPart
+unfolding program ends ones quoted lines intelHex recordHead said value formed ending allDigits total bytesOf byteAt byte digit dataPart
 takes-wide-words =
     let first : valueGiven 4 program 0 ≡ 0xFFFFFFFF = refl in
     (program, taken-exactly 4 512 program (replicate 512 0) refl .1 (closed (records program) refl, in-order 2048 program refl), omega (arith, first))
 
 pub takes-wide-cells : TakesWide 2 (upd77p20 .cells) (cellLimit upd77p20)
-unfolding rom ends ones characters lines intelHex recordHead said value formed ending allDigits total bytesOf byteAt byte digit dataPart
+unfolding rom ends ones quoted lines intelHex recordHead said value formed ending allDigits total bytesOf byteAt byte digit dataPart
 takes-wide-cells =
     let first : valueGiven 2 rom 0 ≡ 0xFFFF = refl in
     (rom, taken-exactly 2 512 rom (replicate 512 0) refl .1 (closed (records rom) refl, in-order 1024 rom refl), omega (arith, first))
