@@ -1,4 +1,4 @@
-// The desk's library: the machine in the caller's record, words taken apart and built, and images from texts, under C names.
+// The desk's library: the machine in the caller's record, words taken apart and built, images and presets from texts and back, under C names.
 // include/bemulatsho.h is its header.
 ghost use mathlib.Core.Path.{_≡_};
 ghost use Rattle.device.specs.Registers.{freshRegisters};
@@ -7,6 +7,7 @@ ghost use Rattle.word.specs.Fields.{opFields, jpFields, ldiFields};
 ghost use Rattle.board.specs.InPlace.{endingInPlace};
 ghost use Rattle.board.specs.Rows.{takenRows, builtRows};
 
+mod presets;
 mod texts;
 
 use device::Registers;

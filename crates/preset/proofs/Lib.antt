@@ -1,0 +1,10 @@
+pub mod Cases
+pub mod Spelled
+pub mod Stores
+pub mod Lines
+pub mod Readable
+pub mod RoundTrip
+pub mod Forms
+pub mod Promises
+pub mod Texts
+pub mod Buffers

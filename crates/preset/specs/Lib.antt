@@ -1,0 +1,4 @@
+pub mod Written
+pub mod Preset
+pub mod Form
+pub mod Promises
