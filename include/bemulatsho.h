@@ -9,7 +9,7 @@
  *
  *     static uint32_t program[BEMULATSHO_WORDS]; // from a text: bemulatsho_load_program
  *     static uint16_t rom[BEMULATSHO_CELLS];     // from a text: bemulatsho_load_data
- *     static uint16_t ram[BEMULATSHO_RAM];       // at the start, what the caller wants
+ *     static uint16_t ram[BEMULATSHO_RAM];       // a preset: bemulatsho_load_preset
  *     static struct bemulatsho_registers registers;
  *
  *     static struct bemulatsho_reply give(uint32_t kind, uint32_t value)
@@ -72,6 +72,9 @@ uint32_t bemulatsho_version(void);
 #define BEMULATSHO_CELL_UNIT 8u         /* a cell goes on the bus times this */
 #define BEMULATSHO_RAM 128u             /* RAM cells, of 16 bits each */
 #define BEMULATSHO_STACK 4u             /* stack cells */
+
+/* The characters of every preset that is written: 16 lines of 44, and an end of 12. */
+#define BEMULATSHO_PRESET_TEXT 716u
 
 /*
  * A program is an array of uint32_t, word n at place n, the word in the low 23 bits. A
@@ -201,17 +204,19 @@ struct bemulatsho_event {
 
 /*
  * The number of an answer: 0 done, else the refusal. It is one numbering with two names:
- * number in bemulatsho_reply, bemulatsho_loading and bemulatsho_record, refusal in
- * bemulatsho_taken_rows and bemulatsho_built. Each is given exactly when its line says;
- * where several apply, the lowest; of a text, that of the first faulty record. An event
- * call gives 0 to 10, bemulatsho_take_apart 0 or 4, bemulatsho_build 0 or 11, a load 0, 1
- * or 12 to 16, bemulatsho_read_record 0 or 12 to 14.
+ * number in bemulatsho_reply, bemulatsho_loading, bemulatsho_record and
+ * bemulatsho_writing, refusal in bemulatsho_taken_rows and bemulatsho_built. Each is
+ * given exactly when its line says; where several apply, the lowest; of a text, that of
+ * the first faulty record. An event call gives 0 to 10, bemulatsho_take_apart 0 or 4,
+ * bemulatsho_build 0 or 11, a load 0, 1 or 12 to 16, bemulatsho_read_record 0 or 12 to
+ * 14, bemulatsho_write_preset 0 or 1.
  */
 enum bemulatsho_number {
     /* done */
     BEMULATSHO_DONE = 0,
     /* a lent image or RAM is not 512, 512, 128 long. In the order of the call: program,
-       data ROM, RAM. Of a load: a lent image of the wrong length, before the rest. */
+       data ROM, RAM. Of a load: a lent image of the wrong length, before the rest. Of a
+       preset that is written: also a buffer shorter than the text. */
     BEMULATSHO_REFUSED_LENGTH = 1,
     /* PC, a stack cell, DP or RP too wide, depth over 4, or SR bits 6 to 2 not 0. All
        four stack cells count, at any depth. Every kind is refused, also a reset. */
@@ -399,12 +404,13 @@ struct bemulatsho_taken_rows bemulatsho_take_apart(uint32_t word);
  */
 struct bemulatsho_built bemulatsho_build(struct bemulatsho_rows rows);
 
-/* ---- images from text */
+/* ---- images and presets from text, and presets as text */
 
 /*
- * A program or a data ROM is kept as a text of Intel HEX. A text is lines, each ended by
- * a line feed, or by a carriage return and a line feed; the last one too. A line is a
- * record, two hexadecimal characters a byte, in capitals or small letters:
+ * A program, a data ROM or a preset, which is what a RAM holds, is kept as a text of Intel
+ * HEX. A text is lines, each ended by a line feed, or by a carriage return and a line
+ * feed; the last one too. A line is a record, two hexadecimal characters a byte, in
+ * capitals or small letters:
  *
  *     :LLAAAATTdd..CC
  *
@@ -414,11 +420,11 @@ struct bemulatsho_built bemulatsho_build(struct bemulatsho_rows rows);
  *     dd..    the data bytes
  *     CC      the check byte: all bytes of the record add up to 0 modulo 256
  *
- * Of a program, word n stands at addresses 4n to 4n+3, of a data ROM, cell n at 2n and
- * 2n+1, low byte first: 2048 and 1024 bytes. The records may come in any order and in any
- * lengths; a data record without data gives nothing, and its address is not looked at.
- * Every address is given exactly once. The end record comes last, has no data, and its
- * address is not looked at:
+ * Of a program, word n stands at addresses 4n to 4n+3, of a data ROM and of a RAM, cell n
+ * at 2n and 2n+1, low byte first: 2048, 1024 and 256 bytes. The records may come in any
+ * order and in any lengths; a data record without data gives nothing, and its address is
+ * not looked at. Every address is given exactly once. The end record comes last, has no
+ * data, and its address is not looked at:
  *
  *     :04000000001050009C    word 0 is 501000H
  *     ...
@@ -471,6 +477,40 @@ struct bemulatsho_loading bemulatsho_load_data(
     const uint8_t *text, size_t text_length,
     uint16_t *image, size_t image_length); /* BEMULATSHO_CELLS */
 
+/*
+ * Fills a RAM from a text, in the same way. Refused, the RAM keeps every cell; else none
+ * is left of those before: half a preset is refusal 15. A cell has 16 bits, so that every
+ * value fits.
+ */
+struct bemulatsho_loading bemulatsho_load_preset(
+    const uint8_t *text, size_t text_length,
+    uint16_t *ram, size_t ram_length); /* BEMULATSHO_RAM */
+
+/* How a text was written. */
+struct bemulatsho_writing {
+    uint8_t number; /* enum bemulatsho_number: 0 the text is written; 1, the buffer is as
+                       it was */
+    size_t length;  /* the text's length, BEMULATSHO_PRESET_TEXT; with 1 it is 0 */
+};
+
+/*
+ * Writes a RAM as a text to the beginning of a buffer: sixteen records of sixteen bytes
+ * and `:00000001FF`, in capitals, each line ended by a line feed; no 0 behind them. What
+ * stands behind the text stays. A RAM that is not 128 long, or a buffer shorter than the
+ * text, is refusal 1, and no byte is written.
+ *
+ *     uint8_t text[BEMULATSHO_PRESET_TEXT];
+ *     struct bemulatsho_writing writing =
+ *         bemulatsho_write_preset(ram, BEMULATSHO_RAM, text, sizeof text);
+ *
+ * bemulatsho_load_preset reads the same cells back; and a text of this form that was read
+ * is written again character for character. The buffer is lent as an image is, with the
+ * same duties; the RAM is only read.
+ */
+struct bemulatsho_writing bemulatsho_write_preset(
+    const uint16_t *ram, size_t ram_length, /* BEMULATSHO_RAM */
+    uint8_t *text, size_t text_length);
+
 /* What a line says as a record. When refused, all but number is 0. */
 struct bemulatsho_record {
     uint8_t number;   /* enum bemulatsho_number: 0 or the refusal, 12 to 14 */
@@ -505,6 +545,7 @@ struct bemulatsho_record bemulatsho_read_record(const uint8_t *line, size_t line
  *     taken_rows    1 byte after refusal, besides those of rows
  *     built         3 bytes after refusal
  *     loading       7 bytes after number
+ *     writing       7 bytes after number
  *     record        3 bytes after bytes
  *
  * Padding means nothing and may hold anything. Records of a kind without padding may be
@@ -607,6 +648,10 @@ BEMULATSHO_OFFSET(built, bits, 4);
 BEMULATSHO_SIZE(loading, 16);
 BEMULATSHO_OFFSET(loading, number, 0);
 BEMULATSHO_OFFSET(loading, line, 8);
+
+BEMULATSHO_SIZE(writing, 16);
+BEMULATSHO_OFFSET(writing, number, 0);
+BEMULATSHO_OFFSET(writing, length, 8);
 
 BEMULATSHO_SIZE(record, 24);
 BEMULATSHO_OFFSET(record, number, 0);

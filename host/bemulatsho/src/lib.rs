@@ -1,10 +1,12 @@
 //! The proved machine for Rust programs: the desk's static library behind slices and references, so that no call can be given a
 //! length that is not its buffer's own. Every input is accepted; a refused one gets its number and changes nothing.
 
+mod presets;
 mod record;
 mod texts;
 mod words;
 
+pub use presets::{load_preset, write_preset, Writing, PRESET_TEXT};
 pub use record::{BothFlags, Flags, Registers};
 pub use texts::{load_data, load_program, read_record, Loading, Record};
 pub use words::{build, take_apart, JpFields, LdiFields, OpFields, Word};
