@@ -1,5 +1,6 @@
 //! The machine that a script prepares and its events change: the proved core, with the images and the RAM that are lent to it.
 
+use crate::chip::ram::Ram;
 use bemulatsho::{event, fresh_registers, kind, Registers, Reply};
 
 /// Which of the lent lists a statement fills.
@@ -43,14 +44,14 @@ pub struct Machine {
     pub registers: Registers,
     pub program: Vec<u32>,
     pub rom: Vec<u16>,
-    pub ram: [u16; bemulatsho::RAM],
+    pub ram: Ram,
 }
 
 /// What events change of a machine, to go back to.
 #[derive(Clone, Copy)]
 pub struct Kept {
     registers: Registers,
-    ram: [u16; bemulatsho::RAM],
+    ram: Ram,
 }
 
 impl Machine {

@@ -3,6 +3,7 @@
 pub mod event;
 pub mod machine;
 pub mod mnemonics;
+pub mod ram;
 pub mod registers;
 pub mod serial;
 pub mod state;

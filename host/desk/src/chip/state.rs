@@ -2,6 +2,7 @@
 //! time, or only what differs.
 
 use crate::chip::machine::Machine;
+use crate::chip::ram::{self, mark, Ram};
 use crate::chip::registers::{named, Register, REGISTERS};
 use crate::numbers;
 use bemulatsho::Registers;
@@ -27,12 +28,10 @@ const SR_BITS: [(&str, u32); 11] = [
     ("P0", 0),
 ];
 
-const CELLS_A_ROW: usize = 16;
-
 #[derive(Clone, Copy, Debug, PartialEq, Eq)]
 pub struct State {
     pub registers: Registers,
-    pub ram: [u16; bemulatsho::RAM],
+    pub ram: Ram,
 }
 
 impl State {
@@ -58,8 +57,9 @@ pub fn show(now: &State, last: &State) -> String {
     lines.extend(NUMBERS.iter().map(|names| register_row(names, 13, now, last)));
     lines.extend(FLAGS.iter().map(|names| register_row(names, 0, now, last)));
     lines.push(sr_bits(now.registers.sr));
-    lines.push(ram_header());
-    lines.extend((0..now.ram.len()).step_by(CELLS_A_ROW).map(|from| ram_row(from, now, last)));
+    lines.push(ram::header());
+    let pointer = Some(usize::from(now.registers.dp));
+    lines.extend(ram::rows().map(|from| ram::row(from, &now.ram, &last.ram, pointer)));
     lines.iter().map(|line| format!("{}\n", line.trim_end())).collect()
 }
 
@@ -75,45 +75,11 @@ fn register_entry(register: &Register, now: &State, last: &State) -> String {
     format!("{} {}{mark} ", register.name, register.print(value))
 }
 
-fn mark(changed: bool) -> char {
-    if changed {
-        '*'
-    } else {
-        ' '
-    }
-}
-
 fn sr_bits(sr: u16) -> String {
     let names: Vec<&str> = SR_BITS.iter().filter(|(_, bit)| sr >> bit & 1 == 1).map(|(name, _)| *name).collect();
     match names.is_empty() {
         true => "SR bits: none".to_string(),
         false => format!("SR bits: {}", names.join(" ")),
-    }
-}
-
-fn ram_header() -> String {
-    let digits: String = (0..CELLS_A_ROW).map(|digit| format!("    {digit:X} ")).collect();
-    format!("RAM{digits}")
-}
-
-/// DP's cell stands in brackets; the closing one takes the place of the next cell's space.
-fn ram_row(from: usize, now: &State, last: &State) -> String {
-    let pointer = usize::from(now.registers.dp);
-    let mut row = format!("{from:02X}H");
-    for (cell, value) in now.ram.iter().enumerate().skip(from).take(CELLS_A_ROW) {
-        row.push(if cell == pointer { '[' } else { bracket_after(cell > from && cell - 1 == pointer) });
-        row.push_str(&format!("{value:04X}"));
-        row.push(mark(last.ram.get(cell) != Some(value)));
-    }
-    row.push(bracket_after(from + CELLS_A_ROW - 1 == pointer));
-    row
-}
-
-fn bracket_after(pointed: bool) -> char {
-    if pointed {
-        ']'
-    } else {
-        ' '
     }
 }
 
@@ -206,15 +172,5 @@ mod tests {
         assert_eq!(sr_bits(0x8081), "SR bits: RQM EI P0");
         assert_eq!(sr_bits(0xffff), "SR bits: RQM USF1 USF0 DRS DMA DRC SOC SIC EI P1 P0");
         assert_eq!(sr_bits(0x007c), "SR bits: none");
-    }
-
-    #[test]
-    fn the_header_stands_over_the_last_digit_of_each_cell() {
-        let header = ram_header();
-        let row = ram_row(0x10, &empty(), &empty());
-        for cell in 0..CELLS_A_ROW {
-            assert_eq!(header.as_bytes()[4 + 6 * cell + 3] as char, format!("{cell:X}").chars().next().unwrap());
-            assert_eq!(&row[4 + 6 * cell..8 + 6 * cell], "0000");
-        }
     }
 }
