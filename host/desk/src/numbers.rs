@@ -21,6 +21,11 @@ pub fn parse_long(text: &str) -> Option<u64> {
     u64::from_str_radix(digits, radix).ok()
 }
 
+/// So many of something.
+pub fn counted(count: usize, name: &str) -> String {
+    format!("{count} {name}{}", if count == 1 { "" } else { "s" })
+}
+
 /// Four digits and an H.
 pub fn register(value: u16) -> String {
     format!("{value:04X}H")

@@ -57,6 +57,13 @@ impl Default for Output {
     }
 }
 
+/// Prints lines that are at hand.
+pub fn print_lines(lines: &[String]) -> Result<(), Fault> {
+    let mut output = Output::new();
+    lines.iter().try_for_each(|line| output.line(line))?;
+    output.flush()
+}
+
 /// Tells something on the standard error, beside the verdict. Where nobody can be told, the status still tells.
 pub fn tell(text: &str) {
     let _ = writeln!(io::stderr(), "desk: {text}");

@@ -2,6 +2,8 @@
 
 use crate::fault::Fault;
 use crate::files::is_standard;
+use crate::numbers;
+use crate::scripts::given::Images;
 use std::path::{Path, PathBuf};
 
 pub struct Arguments<'a> {
@@ -50,13 +52,41 @@ impl<'a> Arguments<'a> {
         }
     }
 
-    /// Puts the file of an image into its place.
-    pub fn image(&mut self, option: &str, place: &mut Option<PathBuf>) -> Result<(), Fault> {
+    /// Puts the one script of a command into its place.
+    pub fn script(&self, place: &mut Option<&'a str>, script: &'a str) -> Result<(), Fault> {
+        match place.replace(script) {
+            None => Ok(()),
+            Some(_) => Err(self.bad(&format!("{script:?} is a second script"))),
+        }
+    }
+
+    /// Puts the file of `--program`, `--data` or `--preset` into its place.
+    pub fn image(&mut self, option: &str, images: &mut Images) -> Result<(), Fault> {
+        let place = match option {
+            "--program" => &mut images.program,
+            "--data" => &mut images.data,
+            _ => &mut images.preset,
+        };
         let file = self.value(option, "an Intel HEX file")?;
         if is_standard(Path::new(file)) {
             return Err(self.bad(&format!("{option} -: expected a file")));
         }
         self.once(place, option, PathBuf::from(file))
+    }
+
+    /// Puts the number behind an option into its place.
+    pub fn number(&mut self, option: &str, expected: &str, place: &mut Option<u64>) -> Result<(), Fault> {
+        let text = self.value(option, expected)?;
+        let number = numbers::parse_long(text).ok_or_else(|| Fault::bad(format!("{option} {text:?}: expected a number, as 20 or 14H")))?;
+        self.once(place, option, number)
+    }
+
+    /// Standard input can be one of the files that are read.
+    pub fn standard_input_once<'b>(&self, read: impl IntoIterator<Item = &'b Path>) -> Result<(), Fault> {
+        match read.into_iter().filter(|file| is_standard(file)).count() {
+            0 | 1 => Ok(()),
+            _ => Err(self.bad("- a second time: standard input can be read once")),
+        }
     }
 
     pub fn unknown(&self, option: &str) -> Fault {

@@ -1,9 +1,10 @@
 //! `desk check-track`: says of each track whether every word that the desk sent is the word that the chip would have sent.
 
 use crate::commands::arguments::{Argument, Arguments};
+use crate::commands::tally::{Subject, Tally};
 use crate::fault::Fault;
 use crate::files::{self, NewFile};
-use crate::output::{tell, Output};
+use crate::output::Output;
 use crate::report;
 use crate::scripts::given::Images;
 use crate::tracks::findings::Findings;
@@ -16,7 +17,10 @@ use crate::tracks::verdict::{sentence, Verdict};
 use std::io::Write;
 use std::path::{Path, PathBuf};
 
-const USE: &str = "expected `desk check-track RECORD..`, or `--program FILE.. [--data FILE] --in WAV.. --sent WAV`, or `--tracks LIST`";
+const USE: &str = "expected `desk check-track RECORD..`, or `--program FILE.. [--data FILE] [--preset FILE] --in WAV.. --sent WAV`, \
+                   or `--tracks LIST`";
+
+const TRACKS: Subject = Subject { name: "track", is_not_good: "does not agree with the chip", are_not_good: "do not agree with the chip" };
 
 struct Asked {
     tracks: Vec<Track>,
@@ -33,16 +37,7 @@ pub fn command(arguments: &[String]) -> Result<(), Fault> {
     // Whatever cannot be written, the rest is done and all of it is told; the verdict is the status.
     let printed = print(&found, asked.start);
     let reported = report.map_or(Ok(()), |report| write_report(report, &asked, &found));
-    let verdict = ended(&found);
-    match (verdict, printed.and(reported)) {
-        (Ok(()), written) => written,
-        (Err(verdict), written) => {
-            if let Err(fault) = written {
-                tell(&fault.to_string());
-            }
-            Err(verdict)
-        }
-    }
+    tally(&found).ended(printed.and(reported))
 }
 
 /// The report's file, so that a folder that is not there is told before the check.
@@ -56,7 +51,7 @@ fn print(found: &[Findings], start: Start) -> Result<(), Fault> {
     for findings in found {
         output.line(&format!("{}: {}: {}", findings.name, Verdict::of(findings), sentence(findings, start)))?;
     }
-    output.line(&tally(found))?;
+    output.line(&tally(found).to_string())?;
     output.flush()
 }
 
@@ -70,7 +65,8 @@ fn write_report((path, mut file): (&Path, NewFile), asked: &Asked, found: &[Find
 
 fn asked(arguments: &[String]) -> Result<Asked, Fault> {
     let mut tracks: Vec<Track> = Vec::new();
-    let (mut scripts, mut data, mut sources, mut sent) = (None, None, None, None);
+    let (mut scripts, mut sources, mut sent) = (None, None, None);
+    let mut images = Images::default();
     let (mut list, mut report, mut start) = (None, None, None);
     let mut arguments = Arguments::new(USE, arguments);
     while let Some(argument) = arguments.next() {
@@ -80,7 +76,7 @@ fn asked(arguments: &[String]) -> Result<Asked, Fault> {
                 let files = paths(&mut arguments, option, "the scripts or the image of the program")?;
                 arguments.once(&mut scripts, option, files)?;
             }
-            Argument::Option(option @ "--data") => arguments.image(option, &mut data)?,
+            Argument::Option(option @ ("--data" | "--preset")) => arguments.image(option, &mut images)?,
             Argument::Option(option @ "--in") => {
                 let files = paths(&mut arguments, option, "the sounds of the sources")?;
                 if files.len() > MOST_SOURCES {
@@ -113,10 +109,9 @@ fn asked(arguments: &[String]) -> Result<Asked, Fault> {
         }
     }
     match (scripts, sources, sent) {
-        (None, None, None) if data.is_none() => {}
+        (None, None, None) if images == Images::default() => {}
         (Some(scripts), Some(sources), Some(sent)) => {
             let name = sent.display().to_string();
-            let images = Images { program: None, data };
             tracks.push(Track { name, from: From::Sounds(Sounds { images, scripts, sources, sent }) });
         }
         _ => return Err(arguments.bad("--program, --in and --sent: expected all three")),
@@ -127,7 +122,8 @@ fn asked(arguments: &[String]) -> Result<Asked, Fault> {
     if tracks.is_empty() {
         return Err(arguments.bad("no track"));
     }
-    standard_input_once(&arguments, &tracks)?;
+    let read: Vec<PathBuf> = tracks.iter().flat_map(read_by).collect();
+    arguments.standard_input_once(read.iter().map(PathBuf::as_path))?;
     Ok(Asked { tracks, list, report, start: start.unwrap_or_default() })
 }
 
@@ -137,15 +133,6 @@ fn paths(arguments: &mut Arguments, option: &str, expected: &str) -> Result<Vec<
         return Err(arguments.bad(&format!("{option}: expected {expected}")));
     }
     Ok(files)
-}
-
-/// Standard input can be one track's record or one of its sounds.
-fn standard_input_once(arguments: &Arguments, tracks: &[Track]) -> Result<(), Fault> {
-    let uses = tracks.iter().flat_map(read_by).filter(|file| files::is_standard(file)).count();
-    if uses > 1 {
-        return Err(arguments.bad("- a second time: standard input can be read once"));
-    }
-    Ok(())
 }
 
 /// The files that a track names.
@@ -171,25 +158,8 @@ fn title(asked: &Asked) -> String {
 }
 
 /// How many tracks there are under each verdict.
-fn counts(found: &[Findings]) -> [(Verdict, usize); 4] {
-    Verdict::ALL.map(|verdict| (verdict, found.iter().filter(|findings| Verdict::of(findings) == verdict).count()))
-}
-
-fn tally(found: &[Findings]) -> String {
-    let tracks = if found.len() == 1 { "1 track".to_string() } else { format!("{} tracks", found.len()) };
-    let counts = counts(found).map(|(verdict, count)| format!("{verdict} {count}"));
-    format!("{tracks}: {}", counts.join(", "))
-}
-
-/// All tracks agree, or the check failed, or a track could not be read.
-fn ended(found: &[Findings]) -> Result<(), Fault> {
-    let [(_, agree), _, _, (_, unreadable)] = counts(found);
-    let others = found.len() - agree;
-    let message = match (found.len(), others) {
-        (_, 0) => return Ok(()),
-        (1, _) => "the track does not agree with the chip".to_string(),
-        (all, 1) => format!("1 of {all} tracks does not agree with the chip"),
-        (all, others) => format!("{others} of {all} tracks do not agree with the chip"),
-    };
-    Err(if unreadable > 0 { Fault::bad(message) } else { Fault::failed(message) })
+fn tally(found: &[Findings]) -> Tally<4> {
+    let mut tally = Tally::new(TRACKS, Verdict::ALL.map(Verdict::name));
+    found.iter().for_each(|findings| tally.count(Verdict::of(findings).name()));
+    tally
 }

@@ -21,7 +21,8 @@ use bemulatsho::kind;
 use std::io::{self, BufWriter, Seek, SeekFrom, Write};
 use std::path::{Path, PathBuf};
 
-const USE: &str = "expected `desk mix [--program FILE] [--data FILE] SCRIPT.. --in WAV.. --out WAV [--record FILE]`; see `desk help mix`";
+const USE: &str = "expected `desk mix [--program FILE] [--data FILE] [--preset FILE] SCRIPT.. --in WAV.. --out WAV [--record FILE]`; \
+                   see `desk help mix`";
 
 /// What is to be mixed: the images and the scripts that prepare the machine, the sources in their order, where the track goes, and its record.
 pub struct Order {
@@ -51,8 +52,7 @@ fn order(arguments: &[String]) -> Result<Order, Fault> {
     let mut arguments = Arguments::new(USE, arguments);
     while let Some(argument) = arguments.next() {
         match argument {
-            Argument::Option(option @ "--program") => arguments.image(option, &mut images.program)?,
-            Argument::Option(option @ "--data") => arguments.image(option, &mut images.data)?,
+            Argument::Option(option @ ("--program" | "--data" | "--preset")) => arguments.image(option, &mut images)?,
             Argument::Option(option @ "--in") => {
                 let files: Vec<PathBuf> = arguments.files().into_iter().map(PathBuf::from).collect();
                 if files.is_empty() || files.len() > MOST_SOURCES {
@@ -80,9 +80,7 @@ fn order(arguments: &[String]) -> Result<Order, Fault> {
     }
     let sources = sources.ok_or_else(|| arguments.bad("no --in: expected the files of the sources"))?;
     let track = track.ok_or_else(|| arguments.bad("no --out: expected the file of the track"))?;
-    if sources.iter().filter(|file| is_standard(file)).count() > 1 {
-        return Err(arguments.bad("- a second time: standard input can be read once"));
-    }
+    arguments.standard_input_once(sources.iter().map(PathBuf::as_path))?;
     Ok(Order { images, scripts, sources, track, record })
 }
 

@@ -8,5 +8,6 @@ pub mod help;
 pub mod mix;
 pub mod run;
 pub mod script;
+mod tally;
 pub mod trace;
 pub mod version;

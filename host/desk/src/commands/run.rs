@@ -11,7 +11,8 @@ use crate::scripts::player::{Played, Player};
 use crate::scripts::statement::Action;
 use bemulatsho::Reply;
 
-const USE: &str = "expected `desk run [--quiet | --json] [--program FILE] [--data FILE] SCRIPT`, where a script of - is standard input";
+const USE: &str = "expected `desk run [--quiet | --json] [--program FILE] [--data FILE] [--preset FILE] SCRIPT`, \
+                   where a script of - is standard input";
 
 #[derive(Clone, Copy, Debug, PartialEq, Eq)]
 enum Print {
@@ -22,7 +23,7 @@ enum Print {
 
 pub fn command(arguments: &[String]) -> Result<(), Fault> {
     let Asked { script, images, print } = asked(arguments)?;
-    let statements = script::checked(script, &images, |_| {})?;
+    let statements = script::checked(script, &images, |_| {})?.statements;
     let mut output = Output::new();
     let played = play(statements, print, &mut output);
     let printed = output.flush();
@@ -43,11 +44,9 @@ fn asked(arguments: &[String]) -> Result<Asked<'_>, Fault> {
         match argument {
             Argument::Option("--quiet") => quiet = true,
             Argument::Option("--json") => json = true,
-            Argument::Option(option @ "--program") => arguments.image(option, &mut images.program)?,
-            Argument::Option(option @ "--data") => arguments.image(option, &mut images.data)?,
+            Argument::Option(option @ ("--program" | "--data" | "--preset")) => arguments.image(option, &mut images)?,
             Argument::Option(option) => return Err(arguments.unknown(option)),
-            Argument::File(second) if script.is_some() => return Err(arguments.bad(&format!("{second:?} is a second script"))),
-            Argument::File(first) => script = Some(first),
+            Argument::File(file) => arguments.script(&mut script, file)?,
         }
     }
     let print = match (quiet, json) {

@@ -7,32 +7,33 @@ use crate::chip::traced::{give_event, run_word, Columns};
 use crate::commands::arguments::{Argument, Arguments};
 use crate::commands::script::{self, Statements};
 use crate::fault::{Fault, Place};
-use crate::numbers;
 use crate::output::Output;
 use crate::scripts::given::Images;
 use crate::scripts::player::Player;
 use crate::scripts::statement::{Action, Fill};
 use bemulatsho::{kind, Reply};
 
-const USE: &str = "expected `desk trace [--from N] [--count N] [--program FILE] [--data FILE] SCRIPT`, \
+const USE: &str = "expected `desk trace [--from N] [--count N] [--program FILE] [--data FILE] [--preset FILE] SCRIPT`, \
                    where N is a number of words and a script of - is standard input";
+
+const WORDS: &str = "a number of words";
 
 pub fn command(arguments: &[String]) -> Result<(), Fault> {
     let asked = asked(arguments)?;
     let mut widest = 0;
-    let statements = script::checked(&asked.script, &asked.images, |statement| {
+    let script = script::checked(asked.script, &asked.images, |statement| {
         if let Action::Fill(Fill { memory: Memory::Program, values, .. }) = &statement.action {
             widest = values.iter().map(|word| mnemonics::line(*word).len()).fold(widest, usize::max);
         }
     })?;
     let mut output = Output::new();
-    let played = Trace::new(&asked, Columns::wide_enough(widest), &mut output).play(statements);
+    let played = Trace::new(&asked, Columns::wide_enough(widest), &mut output).play(script.statements);
     let printed = output.flush();
     played.and(printed)
 }
 
-struct Asked {
-    script: String,
+struct Asked<'a> {
+    script: &'a str,
     images: Images,
     /// Words to pass over.
     from: u64,
@@ -40,29 +41,21 @@ struct Asked {
     count: Option<u64>,
 }
 
-fn asked(arguments: &[String]) -> Result<Asked, Fault> {
+fn asked(arguments: &[String]) -> Result<Asked<'_>, Fault> {
     let (mut script, mut from, mut count) = (None, None, None);
     let mut images = Images::default();
     let mut arguments = Arguments::new(USE, arguments);
     while let Some(argument) = arguments.next() {
         match argument {
-            Argument::Option("--from") => take_number(&mut arguments, "--from", &mut from)?,
-            Argument::Option("--count") => take_number(&mut arguments, "--count", &mut count)?,
-            Argument::Option(option @ "--program") => arguments.image(option, &mut images.program)?,
-            Argument::Option(option @ "--data") => arguments.image(option, &mut images.data)?,
+            Argument::Option("--from") => arguments.number("--from", WORDS, &mut from)?,
+            Argument::Option("--count") => arguments.number("--count", WORDS, &mut count)?,
+            Argument::Option(option @ ("--program" | "--data" | "--preset")) => arguments.image(option, &mut images)?,
             Argument::Option(option) => return Err(arguments.unknown(option)),
-            Argument::File(second) if script.is_some() => return Err(arguments.bad(&format!("{second:?} is a second script"))),
-            Argument::File(first) => script = Some(first.to_string()),
+            Argument::File(file) => arguments.script(&mut script, file)?,
         }
     }
     let script = script.ok_or_else(|| arguments.bad("no script"))?;
     Ok(Asked { script, images, from: from.unwrap_or(0), count })
-}
-
-fn take_number(arguments: &mut Arguments, option: &str, number: &mut Option<u64>) -> Result<(), Fault> {
-    let text = arguments.value(option, "a number of words")?;
-    let words = numbers::parse_long(text).ok_or_else(|| Fault::bad(format!("{option} {text:?}: expected a number, as 20 or 14H")))?;
-    arguments.once(number, option, words)
 }
 
 struct Trace<'a> {

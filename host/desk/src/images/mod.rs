@@ -1,9 +1,10 @@
-//! Images of the program and of the data ROM in Intel HEX: filled whole by the proved loader, or refused with where and why.
+//! Images of the program, the data ROM and the RAM (a preset) in Intel HEX: filled whole by the proved loader, or refused with where and why.
 
 mod loaded;
+pub mod preset;
 mod refused;
 
-pub use loaded::{load, read};
+pub use loaded::{load, read, text};
 
 use crate::chip::machine::Memory;
 
@@ -14,6 +15,7 @@ pub const FIRST: u8 = b':';
 pub enum Image {
     Program,
     Data,
+    Preset,
 }
 
 impl Image {
@@ -22,6 +24,7 @@ impl Image {
         match self {
             Image::Program => Memory::Program,
             Image::Data => Memory::Rom,
+            Image::Preset => Memory::Ram,
         }
     }
 
@@ -30,6 +33,7 @@ impl Image {
         match self {
             Image::Program => 4 * bemulatsho::WORDS,
             Image::Data => 2 * bemulatsho::CELLS,
+            Image::Preset => 2 * bemulatsho::RAM,
         }
     }
 }

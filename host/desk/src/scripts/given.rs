@@ -12,11 +12,12 @@ use std::path::{Path, PathBuf};
 pub struct Images {
     pub program: Option<PathBuf>,
     pub data: Option<PathBuf>,
+    pub preset: Option<PathBuf>,
 }
 
 impl Images {
     fn named(&self) -> impl Iterator<Item = (Image, &PathBuf)> {
-        let files = [(Image::Program, &self.program), (Image::Data, &self.data)];
+        let files = [(Image::Program, &self.program), (Image::Data, &self.data), (Image::Preset, &self.preset)];
         files.into_iter().filter_map(|(image, file)| Some((image, file.as_ref()?)))
     }
 
@@ -36,12 +37,12 @@ impl Images {
 
 /// An image that no statement of a script names: its place is its file.
 pub fn statement(image: Image, file: &Path, input: impl Read) -> Result<Statement, Fault> {
-    let action = filled(image, file, input)?;
+    let action = filled(image, false, file, input)?;
     Ok(Statement { place: Place { file: fault::named(file), spot: Spot::WholeFile }, action })
 }
 
 /// What an image does to a machine: it fills a memory from beginning to end.
-pub fn filled(image: Image, file: &Path, input: impl Read) -> Result<Action, Fault> {
+pub fn filled(image: Image, patch: bool, file: &Path, input: impl Read) -> Result<Action, Fault> {
     let values = images::read(image, file, input)?;
-    Ok(Action::Fill(Fill { memory: image.memory(), from: 0, values, patch: false }))
+    Ok(Action::Fill(Fill { memory: image.memory(), from: 0, values, patch }))
 }

@@ -10,18 +10,31 @@ use crate::scripts::nearest::nearest;
 use crate::scripts::statement::{Action, Fill, NAMES};
 use crate::scripts::words::{Token, Words};
 
+const FILE: &str = "the name of an Intel HEX file";
 const ADDRESS: &str = "an address and a colon, as 01FH:";
 const ADDRESS_OR_FILE: &str = "an address and a colon, as 01FH:, or the name of an Intel HEX file";
 
-/// The image that a statement loads and the name of its file, if it is one that does; its line ends behind them.
-pub fn image(first: &Token, words: &mut Words) -> Result<Option<(Image, Token)>, Fault> {
+/// What a patch goes over; `image` has taken a preset.
+const PATCHED: &str = "program, rom, ram or preset";
+
+/// An image that a statement loads: its file, and whether it goes over what was given before.
+pub struct NamedImage {
+    pub image: Image,
+    pub patch: bool,
+    pub name: Token,
+}
+
+/// The image that a statement loads, if it is one that does; its line ends behind the file's name.
+pub fn image(first: &Token, words: &mut Words) -> Result<Option<NamedImage>, Fault> {
     if first.is("data") {
-        let name = words.expect("the name of an Intel HEX file")?;
-        if is_address(&name) {
-            return Err(name.wrong("the name of an Intel HEX file; cells from an address on stand in `rom`"));
-        }
-        words.end()?;
-        return Ok(Some((Image::Data, name)));
+        return whole(Image::Data, false, words).map(Some);
+    }
+    if first.is("preset") {
+        return whole(Image::Preset, false, words).map(Some);
+    }
+    if first.is("patch") && words.peek().is_some_and(|word| word.is("preset")) {
+        words.next();
+        return whole(Image::Preset, true, words).map(Some);
     }
     if !first.is("program") || words.peek().is_none_or(is_address) {
         return Ok(None);
@@ -30,8 +43,19 @@ pub fn image(first: &Token, words: &mut Words) -> Result<Option<(Image, Token)>,
     let is_number = !name.quoted && numbers::parse_long(&name.text).is_some();
     match is_number || words.peek().is_some() {
         true => Err(name.wrong(ADDRESS_OR_FILE)),
-        false => Ok(Some((Image::Program, name))),
+        false => Ok(Some(NamedImage { image: Image::Program, patch: false, name })),
     }
+}
+
+/// An image that a statement of its own loads; cells from an address on stand in another.
+fn whole(image: Image, patch: bool, words: &mut Words) -> Result<NamedImage, Fault> {
+    let name = words.expect(FILE)?;
+    if is_address(&name) {
+        let cells = image.memory().name();
+        return Err(name.wrong(&format!("{FILE}; cells from an address on stand in `{}{cells}`", if patch { "patch " } else { "" })));
+    }
+    words.end()?;
+    Ok(NamedImage { image, patch, name })
 }
 
 /// Whether a word is to be an address, and not a file.
@@ -56,8 +80,8 @@ fn action(first: &Token, words: &mut Words) -> Result<Action, Fault> {
     }
     match first {
         _ if first.is("patch") => {
-            let name = words.expect("program, rom or ram")?;
-            let memory = memory(&name).ok_or_else(|| name.wrong("program, rom or ram"))?;
+            let name = words.expect(PATCHED)?;
+            let memory = memory(&name).ok_or_else(|| name.wrong(PATCHED))?;
             fill(memory, true, words)
         }
         _ if first.is("set") => register_and_value(words).map(|(register, value)| Action::Set { register, value }),

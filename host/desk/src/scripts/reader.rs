@@ -4,7 +4,7 @@ use crate::fault::{self, Fault, Place, Spot};
 use crate::files::{first_bytes, is_standard};
 use crate::images::{self, Image};
 use crate::scripts::given;
-use crate::scripts::parse;
+use crate::scripts::parse::{self, NamedImage};
 use crate::scripts::seen::Seen;
 use crate::scripts::statement::{Action, Statement};
 use crate::scripts::words::{Token, Words};
@@ -134,9 +134,9 @@ impl Reader {
                 continue;
             }
             let action = match parse::image(&first, &mut words)? {
-                Some((image, name)) => {
+                Some(named) => {
                     self.seen.not_ended(first.place)?;
-                    self.image(image, &name)?
+                    self.image(&named)?
                 }
                 None => parse::statement(&first, &mut words)?,
             };
@@ -160,12 +160,12 @@ impl Reader {
     }
 
     /// Loads the image that a statement names. What is wrong with it has the statement's place, and behind it its own.
-    fn image(&mut self, image: Image, name: &Token) -> Result<Action, Fault> {
+    fn image(&mut self, NamedImage { image, patch, name }: &NamedImage) -> Result<Action, Fault> {
         if is_standard(Path::new(&name.text)) {
             return Err(name.wrong("a file"));
         }
         let path = beside(name);
-        let filled = self.opened(&path).and_then(|input| given::filled(image, &path, input));
+        let filled = self.opened(&path).and_then(|input| given::filled(*image, *patch, &path, input));
         filled.map_err(|fault| Fault::bad_at(name.place, fault.to_string()))
     }
 }
@@ -208,7 +208,7 @@ impl Open {
             line.drain(..BYTE_ORDER_MARK.len());
         }
         if self.line == 1 && line.first() == Some(&images::FIRST) {
-            return Err(Fault::bad_at(place(1), "this is Intel HEX: give it with --program or --data, or name it in a script"));
+            return Err(Fault::bad_at(place(1), "this is Intel HEX: give it with --program, --data or --preset, or name it in a script"));
         }
         while line.last().is_some_and(|byte| matches!(byte, b'\n' | b'\r')) {
             line.pop();

@@ -37,7 +37,8 @@ impl Seen {
             let before = self.given.insert((*memory, at), place);
             if let (Some(before), false) = (before, *patch) {
                 let name = memory.name();
-                let message = format!("{name} {at:03X}H was given before, at {before}: expected each once, or `patch {name}`");
+                let preset = if fill.is_preset() { " or `patch preset`" } else { "" };
+                let message = format!("{name} {at:03X}H was given before, at {before}: expected each once, or `patch {name}`{preset}");
                 return Err(Fault::bad_at(place, message));
             }
         }

@@ -7,7 +7,8 @@
 //! rom ADDRESS: CELL ..          data ROM cells
 //! data FILE                     all of them: an image in Intel HEX, beside this script
 //! ram ADDRESS: WORD ..          RAM cells
-//! patch program|rom|ram ..      the same over what was given before
+//! preset FILE                   all of them: an image in Intel HEX, beside this script
+//! patch program|rom|ram|preset ..  the same over what was given before
 //! set REGISTER VALUE            a register, flag or mark by its name
 //! event KIND VALUE              an event by its number
 //! run WORDS  in WORD  write BYTE  read  status  out  interrupt  reset
@@ -28,12 +29,13 @@ use crate::fault::Place;
 use std::fmt;
 
 /// The names that a statement may begin with, for messages.
-pub const NAMES: [&str; 23] = [
+pub const NAMES: [&str; 24] = [
     "include",
     "program",
     "data",
     "rom",
     "ram",
+    "preset",
     "patch",
     "set",
     "event",
@@ -76,6 +78,13 @@ pub struct Fill {
     pub from: usize,
     pub values: Vec<u32>,
     pub patch: bool,
+}
+
+impl Fill {
+    /// Whether it gives every cell of the RAM, as a preset does.
+    pub fn is_preset(&self) -> bool {
+        self.memory == Memory::Ram && self.values.len() == bemulatsho::RAM
+    }
 }
 
 #[derive(Clone, Debug, PartialEq)]

@@ -2,7 +2,7 @@
 //!
 //! ```text
 //! track NAME record FILE
-//! track NAME program FILE .. [data FILE] in WAV .. sent WAV
+//! track NAME program FILE .. [data FILE] [preset FILE] in WAV .. sent WAV
 //! ```
 //!
 //! A file of the program is a script or an image in Intel HEX.
@@ -19,6 +19,12 @@ use std::path::{Path, PathBuf};
 /// Most tracks of a list, and most bytes of it.
 const MOST: usize = 1000;
 const LARGEST: u64 = 1 << 20;
+
+/// The line of a track.
+const FORM: &str = "`track NAME record FILE` or `track NAME program FILE .. [data FILE] [preset FILE] in WAV .. sent WAV`";
+
+/// What may stand behind the scripts of a program, each once; the sources are last.
+const BEHIND_SCRIPTS: [&str; 3] = ["data", "preset", "in"];
 
 #[derive(Clone, Debug, PartialEq, Eq)]
 pub struct Track {
@@ -60,7 +66,7 @@ fn parse(list: &Path, text: &str) -> Result<Vec<Track>, Fault> {
         let mut words = Words::new(file, line, text)?;
         let Some(first) = words.next() else { continue };
         if !first.is("track") {
-            return Err(first.wrong("`track NAME record FILE` or `track NAME program FILE .. [data FILE] in WAV .. sent WAV`"));
+            return Err(first.wrong(FORM));
         }
         let name = words.expect("the name of the track")?;
         if tracks.iter().any(|track| track.name == name.text) {
@@ -92,24 +98,42 @@ fn from(folder: &Path, words: &mut Words) -> Result<From, Fault> {
     if !form.is("program") {
         return Err(form.wrong("`record` or `program`"));
     }
-    let (scripts, behind) = files(folder, words, &["data", "in"])?;
-    let data = if behind.is("data") { Some(data(folder, words)?) } else { None };
+    let (scripts, behind) = files(folder, words, &BEHIND_SCRIPTS)?;
+    let images = images(folder, words, behind)?;
     let (sources, last) = files(folder, words, &["sent"])?;
     if sources.len() > MOST_SOURCES {
         return Err(last.wrong(&format!("at most {MOST_SOURCES} sources before it")));
     }
     let sent = words.expect("the sound that was sent")?;
     words.end()?;
-    Ok(From::Sounds(Sounds { images: Images { program: None, data }, scripts, sources, sent: beside(folder, sent)? }))
+    Ok(From::Sounds(Sounds { images, scripts, sources, sent: beside(folder, sent)? }))
 }
 
-/// The image of the data ROM, up to the sources.
-fn data(folder: &Path, words: &mut Words) -> Result<PathBuf, Fault> {
-    let file = beside(folder, words.expect("the image of the data ROM")?)?;
-    match words.expect("`in`")? {
-        word if word.is("in") => Ok(file),
-        other => Err(other.wrong("`in`")),
+/// The images of the data ROM and the RAM, up to the sources.
+fn images(folder: &Path, words: &mut Words, mut word: Token) -> Result<Images, Fault> {
+    let mut images = Images::default();
+    while !word.is("in") {
+        let (place, expected) = match word.is("data") {
+            true => (&mut images.data, "the image of the data ROM"),
+            false => (&mut images.preset, "the preset"),
+        };
+        *place = Some(beside(folder, words.expect(expected)?)?);
+        let given = |name: &str| name == "data" && images.data.is_some() || name == "preset" && images.preset.is_some();
+        word = one_of(words, &BEHIND_SCRIPTS.into_iter().filter(|name| !given(name)).collect::<Vec<&str>>())?;
     }
+    Ok(images)
+}
+
+fn one_of(words: &mut Words, ends: &[&str]) -> Result<Token, Fault> {
+    let expected = either(ends);
+    match words.expect(&expected)? {
+        word if ends.iter().any(|end| word.is(end)) => Ok(word),
+        other => Err(other.wrong(&expected)),
+    }
+}
+
+fn either(ends: &[&str]) -> String {
+    format!("`{}`", ends.join("` or `"))
 }
 
 /// A file of the list's folder; standard input has no place in a list.
@@ -124,7 +148,7 @@ fn beside(folder: &Path, name: Token) -> Result<PathBuf, Fault> {
 fn files(folder: &Path, words: &mut Words, ends: &[&str]) -> Result<(Vec<PathBuf>, Token), Fault> {
     let mut files = Vec::new();
     loop {
-        let token = words.expect(&format!("a file, or `{}`", ends.join("` or `")))?;
+        let token = words.expect(&format!("a file, or {}", either(ends)))?;
         if !ends.iter().any(|end| token.is(end)) {
             files.push(beside(folder, token)?);
         } else if files.is_empty() {
@@ -164,7 +188,7 @@ mod tests {
         let text = "track A program mix.hex preset.desk data rom.hex in a.wav sent 1.wav\ntrack B program \"data\" in a.wav sent 2.wav\n";
         let tracks = parse(Path::new("tracks"), text).unwrap();
         let sounds = |data: Option<&str>, scripts: &[&str], sent: &str| Sounds {
-            images: Images { program: None, data: data.map(PathBuf::from) },
+            images: Images { data: data.map(PathBuf::from), ..Images::default() },
             scripts: scripts.iter().map(PathBuf::from).collect(),
             sources: vec![PathBuf::from("a.wav")],
             sent: PathBuf::from(sent),
@@ -184,8 +208,8 @@ mod tests {
         assert_eq!(told(twice), "evening/tracks:2:1: evening/x is track \"E\" too: expected a file for each");
         assert_eq!(told("track E program in a sent b"), "evening/tracks:1:17: \"in\": expected a file before it");
         assert_eq!(told("track E program p in a"), "evening/tracks:1:23: the line ends: expected a file, or `sent`");
-        assert_eq!(told("track E program p"), "evening/tracks:1:18: the line ends: expected a file, or `data` or `in`");
+        assert_eq!(told("track E program p"), "evening/tracks:1:18: the line ends: expected a file, or `data` or `preset` or `in`");
         assert_eq!(told("track E program p data"), "evening/tracks:1:23: the line ends: expected the image of the data ROM");
-        assert_eq!(told("track E program p data d e in a sent b"), "evening/tracks:1:26: \"e\": expected `in`");
+        assert_eq!(told("track E program p data d e in a sent b"), "evening/tracks:1:26: \"e\": expected `preset` or `in`");
     }
 }

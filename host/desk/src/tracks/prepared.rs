@@ -61,7 +61,8 @@ fn only_prepares(statement: &Statement) -> Result<(), Fault> {
         Action::Fill(_) | Action::Set { .. } | Action::Event(_) => Ok(()),
         other => {
             let name = other.name();
-            let message = format!("{name:?}: expected only program, data, rom, ram, patch, set, include and events in a script for a mix");
+            let message =
+                format!("{name:?}: expected only program, data, rom, ram, preset, patch, set, include and events in a script for a mix");
             Err(Fault::bad_at(statement.place, message))
         }
     }

@@ -32,16 +32,20 @@ impl Verdict {
             Verdict::Agrees
         }
     }
-}
 
-impl fmt::Display for Verdict {
-    fn fmt(&self, f: &mut fmt::Formatter) -> fmt::Result {
-        f.write_str(match self {
+    pub fn name(self) -> &'static str {
+        match self {
             Verdict::Agrees => "agrees",
             Verdict::Differs => "differs",
             Verdict::Incomplete => "incomplete",
             Verdict::Unreadable => "unreadable",
-        })
+        }
+    }
+}
+
+impl fmt::Display for Verdict {
+    fn fmt(&self, f: &mut fmt::Formatter) -> fmt::Result {
+        f.write_str(self.name())
     }
 }
 

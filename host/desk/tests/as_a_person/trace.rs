@@ -209,7 +209,7 @@ fn a_refused_run_is_counted_behind_the_count_too() {
 #[test]
 fn bad_use_says_what_was_expected() {
     let folder = Folder::new().with("s.desk", "run 1\n");
-    let usage = "expected `desk trace [--from N] [--count N] [--program FILE] [--data FILE] SCRIPT`, \
+    let usage = "expected `desk trace [--from N] [--count N] [--program FILE] [--data FILE] [--preset FILE] SCRIPT`, \
                  where N is a number of words and a script of - is standard input";
     let cases = [
         ("trace", "no script"),

@@ -2,6 +2,7 @@
 
 use super::{without_ending, Reason};
 use crate::images::FIRST;
+use crate::numbers::counted;
 
 /// Where the fields stand: columns of an editor, which counts from 1.
 const LENGTH: usize = 2;
@@ -76,8 +77,4 @@ fn character(from: &[u8]) -> String {
         (None, Some(byte)) => format!("the byte {byte:02X}H"),
         (None, None) => "nothing".to_string(),
     }
-}
-
-fn counted(count: usize, name: &str) -> String {
-    format!("{count} {name}{}", if count == 1 { "" } else { "s" })
 }

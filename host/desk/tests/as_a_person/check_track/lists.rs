@@ -49,7 +49,7 @@ fn records_may_stand_beside_a_list() {
 
 #[test]
 fn a_bad_line_is_told_with_line_and_column() {
-    let form = "`track NAME record FILE` or `track NAME program FILE .. [data FILE] in WAV .. sent WAV`";
+    let form = "`track NAME record FILE` or `track NAME program FILE .. [data FILE] [preset FILE] in WAV .. sent WAV`";
     is_bad("\n  English record x\n", &format!("evening.tracks:2:3: \"English\": expected {form}"));
     is_bad("track\n", "evening.tracks:1:6: the line ends: expected the name of the track");
     is_bad("track E\n", "evening.tracks:1:8: the line ends: expected `record` or `program`");
@@ -65,12 +65,16 @@ fn a_bad_line_of_sounds_is_told_with_line_and_column() {
     is_bad("track E program in a.wav sent b.wav\n", "evening.tracks:1:17: \"in\": expected a file before it");
     is_bad("track E program p in sent b.wav\n", "evening.tracks:1:22: \"sent\": expected a file before it");
     is_bad("track E program p in a.wav\n", "evening.tracks:1:27: the line ends: expected a file, or `sent`");
-    is_bad("track E program p\n", "evening.tracks:1:18: the line ends: expected a file, or `data` or `in`");
+    is_bad("track E program p\n", "evening.tracks:1:18: the line ends: expected a file, or `data` or `preset` or `in`");
     is_bad("track E program data d in a.wav sent b.wav\n", "evening.tracks:1:17: \"data\": expected a file before it");
     is_bad("track E program p data\n", "evening.tracks:1:23: the line ends: expected the image of the data ROM");
     is_bad("track E program p data - in a.wav sent b.wav\n", "evening.tracks:1:24: \"-\": expected a file");
-    is_bad("track E program p data d\n", "evening.tracks:1:25: the line ends: expected `in`");
-    is_bad("track E program p data d e in a.wav sent b.wav\n", "evening.tracks:1:26: \"e\": expected `in`");
+    is_bad("track E program p data d\n", "evening.tracks:1:25: the line ends: expected `preset` or `in`");
+    is_bad("track E program p data d e in a.wav sent b.wav\n", "evening.tracks:1:26: \"e\": expected `preset` or `in`");
+    is_bad("track E program p preset\n", "evening.tracks:1:25: the line ends: expected the preset");
+    is_bad("track E program p preset - in a.wav sent b.wav\n", "evening.tracks:1:26: \"-\": expected a file");
+    is_bad("track E program p preset m preset m in a sent b\n", "evening.tracks:1:28: \"preset\": expected `data` or `in`");
+    is_bad("track E program p preset m data d data d in a sent b\n", "evening.tracks:1:35: \"data\": expected `in`");
     is_bad("track E program p in a.wav sent\n", "evening.tracks:1:32: the line ends: expected the sound that was sent");
     is_bad("track E program p in a.wav sent b.wav c.wav\n", "evening.tracks:1:39: \"c.wav\": expected the end of the line");
     let many = "a.wav ".repeat(17);

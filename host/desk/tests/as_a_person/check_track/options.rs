@@ -4,7 +4,8 @@ use super::sounds::{evening, CHECK};
 use super::trial::{good, with_sent};
 use crate::folder::{ended, Folder};
 
-const USE: &str = "expected `desk check-track RECORD..`, or `--program FILE.. [--data FILE] --in WAV.. --sent WAV`, or `--tracks LIST`";
+const USE: &str = "expected `desk check-track RECORD..`, or `--program FILE.. [--data FILE] [--preset FILE] --in WAV.. --sent WAV`, \
+                   or `--tracks LIST`";
 
 #[test]
 fn bad_use_says_what_was_expected() {
@@ -17,6 +18,9 @@ fn bad_use_says_what_was_expected() {
         ("--data", "--data: expected an Intel HEX file"),
         ("--data -", "--data -: expected a file"),
         ("--data a --data b", "--data a second time"),
+        ("--preset -", "--preset -: expected a file"),
+        ("--preset a --preset b", "--preset a second time"),
+        ("--preset a", "--program, --in and --sent: expected all three"),
         ("--data a", "--program, --in and --sent: expected all three"),
         ("good.record --data a --in b --sent c", "--program, --in and --sent: expected all three"),
         ("--program a --in", "--in: expected the sounds of the sources"),

@@ -1,4 +1,4 @@
-//! `--program` and `--data`: each once, each with a file; and a file of Intel HEX where a script belongs.
+//! `--program`, `--data` and `--preset`: each once, each with a file; and a file of Intel HEX where a script belongs.
 
 use super::{last_cell, sends_cell};
 
@@ -10,6 +10,9 @@ fn bad_use_says_what_was_expected() {
         ("--data --program program.hex", "--data: expected an Intel HEX file"),
         ("--program - runs.desk", "--program -: expected a file"),
         ("--data - runs.desk", "--data -: expected a file"),
+        ("--preset", "--preset: expected an Intel HEX file"),
+        ("--preset - runs.desk", "--preset -: expected a file"),
+        ("--preset a.hex --preset a.hex runs.desk", "--preset a second time"),
         ("--program program.hex --program program.hex runs.desk", "--program a second time"),
         ("--data data.hex runs.desk --data data.hex", "--data a second time"),
     ];
@@ -25,7 +28,7 @@ fn bad_use_says_what_was_expected() {
     }
 }
 
-const HEX: &str = "this is Intel HEX: give it with --program or --data, or name it in a script";
+const HEX: &str = "this is Intel HEX: give it with --program, --data or --preset, or name it in a script";
 
 #[test]
 fn an_image_where_a_script_belongs_is_told() {

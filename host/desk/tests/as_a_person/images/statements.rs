@@ -33,7 +33,7 @@ fn what_is_neither_an_address_nor_one_file_is_told() {
 fn no_other_statement_takes_a_file() {
     let address = "expected an address and a colon, as 01FH:";
     is_bad("patch program a.hex", &format!("15: \"a.hex\": {address}"));
-    is_bad("patch data a.hex", "7: \"data\": expected program, rom or ram");
+    is_bad("patch data a.hex", "7: \"data\": expected program, rom, ram or preset");
     is_bad("rom a.hex", &format!("5: \"a.hex\": {address}"));
     is_bad("ram a.hex", &format!("5: \"a.hex\": {address}"));
 }

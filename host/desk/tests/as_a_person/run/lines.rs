@@ -49,8 +49,8 @@ fn a_bad_address_or_word_is_told_with_its_place_before_anything_runs() {
         ("ram 127: 1 2 3", "12: \"2\": expected nothing: ram has 128 places".to_string()),
         ("rom 0: 10000H", format!("8: \"10000H\": expected a number up to FFFFH {NUMBERS}")),
         ("ram 0: 1 é", format!("10: \"é\": expected a number up to FFFFH {NUMBERS}")),
-        ("patch", "6: the line ends: expected program, rom or ram".to_string()),
-        ("patch 0: 1", "7: \"0:\": expected program, rom or ram".to_string()),
+        ("patch", "6: the line ends: expected program, rom, ram or preset".to_string()),
+        ("patch 0: 1", "7: \"0:\": expected program, rom, ram or preset".to_string()),
     ];
     bad_lines(&cases);
 }

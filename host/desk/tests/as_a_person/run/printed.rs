@@ -86,7 +86,8 @@ fn bad_use_says_what_was_expected() {
         ("run --json s.desk --quiet", "--quiet and --json together"),
     ];
     for (line, told) in cases {
-        let usage = "expected `desk run [--quiet | --json] [--program FILE] [--data FILE] SCRIPT`, where a script of - is standard input";
+        let usage = "expected `desk run [--quiet | --json] [--program FILE] [--data FILE] [--preset FILE] SCRIPT`, \
+                     where a script of - is standard input";
         folder.desk(line).is_refused(2, &format!("{told}: {usage}"));
     }
 }
