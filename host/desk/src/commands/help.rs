@@ -12,6 +12,7 @@ desk: the uPD7720A / 77P20 in software, for the bench
   desk check-track ..         was what the desk sent what the chip would have sent?
   desk mix SCRIPT.. --in WAV.. --out WAV
                               mix sound files by a program
+  desk preset COMMAND ..      write, check, show and compare presets in Intel HEX
   desk convert RECORD OTHER   a record from text into the compact form, or back
   desk example FOLDER         mix three tones and check the track
   desk help COMMAND           more about a command; also desk COMMAND --help
@@ -25,7 +26,7 @@ Example:
 ";
 
 const RUN: &str = "\
-desk run [--quiet | --json] [--program FILE] [--data FILE] SCRIPT
+desk run [--quiet | --json] [--program FILE] [--data FILE] [--preset FILE] SCRIPT
 
 Plays a script on the proved core; `-` reads it from standard input. Each event prints its reply: the number
 with its meaning, the words done, the value. The first expectation that does not hold ends the run with
@@ -36,6 +37,7 @@ too, in text or in the compact form.
   --json           print one object a reply
   --program FILE   the program, an image in Intel HEX, given before the script's own statements
   --data FILE      the data ROM, in the same way
+  --preset FILE    all 128 cells of the RAM, in the same way
 
 An image has record types 00 and 01, every address once, low bytes first (word n from address 4n on, cell n from
 2n on), and an end record last. It is loaded whole, or refused with its line and what is wrong there.
@@ -48,7 +50,9 @@ a name with spaces stands in \"quotes\":
   rom ADDRESS: CELL ..              data ROM cells
   data FILE                         all of them: an image in Intel HEX, beside this script
   ram ADDRESS: WORD ..              RAM cells
-  patch program | rom | ram ..      the same, over what was given before
+  preset FILE                       all of them: an image in Intel HEX, beside this script
+  patch program | rom | ram | preset ..
+                                    the same, over what was given before
   set REGISTER VALUE                PC STACK0 .. STACK3 DEPTH A B K L TR DR SI SO DP RP SR SIACK SOACK SORQ,
                                     and the flags SA1 SA0 CA ZA OVA1 OVA0 SB1 SB0 CB ZB OVB1 OVB0
   run WORDS | in WORD | out | read | write BYTE | status | interrupt | reset
@@ -68,7 +72,7 @@ Example:
 ";
 
 const TRACE: &str = "\
-desk trace [--from N] [--count N] [--program FILE] [--data FILE] SCRIPT
+desk trace [--from N] [--count N] [--program FILE] [--data FILE] [--preset FILE] SCRIPT
 
 Plays and judges a script as `desk run` does, word by word, and prints each word as it finishes: its address,
 the word, its fields in the manual's mnemonics, and only what changed. This is how a wrong channel map is found.
@@ -77,6 +81,7 @@ the word, its fields in the manual's mnemonics, and only what changed. This is h
   --count N        print N words; what comes behind them is played and judged all the same
   --program FILE   the program, an image in Intel HEX, given before the script's own statements
   --data FILE      the data ROM, in the same way
+  --preset FILE    all 128 cells of the RAM, in the same way
 
 N may be hexadecimal, as 14H; a script of - is standard input.
 
@@ -86,17 +91,17 @@ Example:
 
 const CHECK_TRACK: &str = "\
 desk check-track RECORD..
-desk check-track --program FILE.. [--data FILE] --in WAV.. --sent WAV
+desk check-track --program FILE.. [--data FILE] [--preset FILE] --in WAV.. --sent WAV
 desk check-track --tracks LIST
 
 Gives the proved core what the desk was given and holds every word that the desk sent against what the chip
 would have sent. A record has the events; with sound files the sources go through the program as in `desk mix`.
 A file of the program is a script, or an image in Intel HEX, which begins with a colon; `data` is the image of the
-data ROM. A list has a line a track, paths relative to it:
+data ROM, `preset` that of the RAM. A list has a line a track, paths relative to it:
 
   track English record english.record
   track \"Channel 2\" program mixing.desk preset.desk in booth.wav floor.wav relay.wav sent channel-2.wav
-  track German program mixing.hex gains.desk data rom.hex in booth.wav floor.wav relay.wav sent german.wav
+  track German program mixing.hex data rom.hex preset monday.hex in booth.wav floor.wav relay.wav sent german.wav
 
   --report FILE.html   a page for the coordinator: which track is wrong, since when, which source is on it
   --start HH:MM:SS     the time of day of the first sample
@@ -125,7 +130,7 @@ Example:
 ";
 
 const MIX: &str = "\
-desk mix [--program FILE] [--data FILE] SCRIPT.. --in WAV.. --out WAV [--record FILE]
+desk mix [--program FILE] [--data FILE] [--preset FILE] SCRIPT.. --in WAV.. --out WAV [--record FILE]
 
 Runs one sample of each source through the serial port for every sample of the track: each goes in, the program
 runs until it has taken it, and after the last until it sends. The scripts bring the program, the data and the
@@ -135,10 +140,43 @@ is read. A sound of `-` is standard input or output.
 
   --program FILE   the program, an image in Intel HEX, given before the scripts; with it no script is needed
   --data FILE      the data ROM, an image in Intel HEX
+  --preset FILE    all 128 cells of the RAM, an image in Intel HEX
   --record FILE    write the record of the mix too, in the compact form
 
 Example, in the folder that `desk example` makes:
   $ desk mix mixing.desk preset.desk --in booth.wav floor.wav relay.wav --out again.wav
+";
+
+const PRESET: &str = "\
+desk preset write SCRIPT --out FILE [--events N] [--program FILE] [--data FILE] [--preset FILE]
+desk preset check FILE..
+desk preset show FILE
+desk preset diff A B
+
+A preset is the 128 cells of the RAM as an image in Intel HEX: 256 bytes from address 0 on, low byte first. It is
+loaded whole or refused: half a preset is refusal 15, and the RAM keeps every cell. A script names one by
+`preset FILE`, over what was given before by `patch preset FILE`; `--preset FILE` gives one to a command.
+
+  write   plays a script as `desk run --quiet` does, and writes the RAM that it leaves: sixteen records of
+          sixteen bytes and the end record. Where an expectation does not hold or an event is refused, the status
+          is 1 and nothing is written. The file is written whole or not at all, and never over one that is read.
+  check   a line a file, good, refused or unreadable, and a last line that counts them; a good one that desk would
+          write otherwise is told with its first such line. Status 0 if all are good, 2 if one is unreadable, else 1.
+  show    the cells in rows of sixteen. The row is DP's bits 6 to 4, which DPH-M changes, the column its bits 3 to 0.
+  diff    a line a cell that differs. Status 0 if none does, 1 if some do, 2 if one is no preset.
+
+  --events N       play the first N events; 0 writes the RAM as it is given before the first event
+  --program FILE   the program, an image in Intel HEX, given before the script's own statements
+  --data FILE      the data ROM, in the same way
+  --preset FILE    all 128 cells of the RAM, in the same way
+
+`-` is standard input or, behind --out, standard output.
+
+Examples:
+  $ desk preset write examples/presets/monday.desk --out -
+  $ desk preset check examples/presets/monday.hex examples/presets/tuesday.hex
+  $ desk preset show examples/presets/monday.hex
+  $ desk preset diff examples/presets/monday.hex examples/presets/tuesday.hex
 ";
 
 const CONVERT: &str = "\
@@ -173,12 +211,13 @@ Example:
 ";
 
 /// The commands and their texts, the overview first.
-pub const TEXTS: [(&str, &str); 8] = [
+pub const TEXTS: [(&str, &str); 9] = [
     ("", OVERVIEW),
     ("run", RUN),
     ("trace", TRACE),
     ("check-track", CHECK_TRACK),
     ("mix", MIX),
+    ("preset", PRESET),
     ("convert", CONVERT),
     ("example", EXAMPLE),
     ("help", HELP),
@@ -191,10 +230,13 @@ pub fn is_command(name: &str) -> bool {
 /// No such command; the nearest is named.
 pub fn no_command(name: &str) -> Fault {
     let commands = TEXTS.iter().map(|(command, _)| *command).filter(|command| !command.is_empty());
-    match nearest(name, commands) {
-        Some(meant) => Fault::bad(format!("{name:?} is no command, perhaps {meant:?}: see `desk help`")),
-        None => Fault::bad(format!("{name:?} is no command: see `desk help`")),
-    }
+    unknown(name, "command", commands, "desk help")
+}
+
+/// A name that is none of these; the nearest is named, and what tells more.
+pub fn unknown<'a>(name: &str, what: &str, names: impl IntoIterator<Item = &'a str>, see: &str) -> Fault {
+    let perhaps = nearest(name, names).map_or_else(String::new, |meant| format!(", perhaps {meant:?}"));
+    Fault::bad(format!("{name:?} is no {what}{perhaps}: see `{see}`"))
 }
 
 pub fn command(arguments: &[String]) -> Result<(), Fault> {

@@ -6,6 +6,7 @@ pub mod convert;
 pub mod example;
 pub mod help;
 pub mod mix;
+pub mod preset;
 pub mod run;
 pub mod script;
 mod tally;

@@ -13,7 +13,8 @@ fn examples(text: &str) -> Vec<String> {
 #[track_caller]
 fn succeeds(folder: &Path, line: &str) {
     let ran = desk_in(folder, line);
-    assert_eq!((ran.status, ran.told.as_str()), (0, ""), "desk {line}");
+    let expected = if line.starts_with("preset diff ") { (1, "desk: the presets differ\n") } else { (0, "") };
+    assert_eq!((ran.status, ran.told.as_str()), expected, "desk {line}");
     assert!(!ran.printed.is_empty(), "desk {line} prints nothing");
 }
 
@@ -24,9 +25,10 @@ fn every_text_is_printed_and_its_example_runs() {
     for (command, text) in TEXTS {
         sound.desk(format!("help {command}").trim_end()).is_done(text);
         let examples = examples(text);
-        assert_eq!(examples.len(), 1, "desk help {command} has one example");
+        // One, or one for each of its own commands.
+        assert_eq!(examples.len(), if command == "preset" { 4 } else { 1 }, "desk help {command} has its examples");
         let folder = if matches!(command, "mix" | "example" | "convert") { sound.0.clone() } else { repository() };
-        succeeds(&folder, &examples[0]);
+        examples.iter().for_each(|example| succeeds(&folder, example));
     }
 }
 

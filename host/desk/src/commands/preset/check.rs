@@ -1,0 +1,78 @@
+//! `desk preset check`: says of each file whether it is a whole preset, and whether it is written as `desk` would write it.
+
+use super::file::{self, called};
+use crate::commands::arguments::Arguments;
+use crate::commands::tally::{Subject, Tally};
+use crate::fault::Fault;
+use crate::images::preset;
+use crate::output::print_lines;
+use std::path::Path;
+
+const USE: &str = "expected `desk preset check FILE..`, where one of them may be - for standard input";
+
+const PRESETS: Subject = Subject { name: "preset", is_not_good: "is not good", are_not_good: "are not good" };
+
+const VERDICTS: [&str; 3] = ["good", "refused", "unreadable"];
+
+pub fn command(arguments: &[String]) -> Result<(), Fault> {
+    let mut arguments = Arguments::new(USE, arguments);
+    let files = file::files(&mut arguments)?;
+    if files.is_empty() {
+        return Err(arguments.bad("no preset"));
+    }
+    let mut tally = Tally::new(PRESETS, VERDICTS);
+    let mut lines = Vec::new();
+    for file in files {
+        let (verdict, sentence) = check(file)?;
+        tally.count(verdict);
+        lines.push(format!("{}: {verdict}: {sentence}", called(file).display()));
+    }
+    lines.push(tally.to_string());
+    tally.ended(print_lines(&lines))
+}
+
+/// The verdict on a file, and what there is to say of it.
+fn check(file: &Path) -> Result<(&'static str, String), Fault> {
+    let [good, refused, unreadable] = VERDICTS;
+    let text = match file::text(file) {
+        Ok(text) => text,
+        Err(fault) => return Ok((unreadable, fault.to_string())),
+    };
+    let ram = match preset::load(called(file), &text) {
+        Ok(ram) => ram,
+        Err(fault) => return Ok((refused, fault.to_string())),
+    };
+    let otherwise = match first_other_line(&text, preset::written(&ram)?.as_bytes()) {
+        Some(line) => format!("; desk would write it otherwise, from line {line} on"),
+        None => String::new(),
+    };
+    Ok((good, format!("{} cells, {} not 0{otherwise}", ram.len(), file::used(&ram))))
+}
+
+/// The first line, counted from 1, in which two texts differ.
+fn first_other_line(text: &[u8], other: &[u8]) -> Option<usize> {
+    let lines = |text| <[u8]>::split_inclusive(text, |byte| *byte == b'\n');
+    let same = lines(text).zip(lines(other)).take_while(|(line, other)| line == other).count();
+    (text != other).then_some(same + 1)
+}
+
+#[cfg(test)]
+mod tests {
+    use super::*;
+
+    #[test]
+    fn the_first_other_line_is_found() {
+        let other = b"a\nb\nc\n";
+        for (text, line) in [
+            (&b"a\nb\nc\n"[..], None),
+            (b"A\nb\nc\n", Some(1)),
+            (b"a\r\nb\nc\n", Some(1)),
+            (b"a\nc\nb\n", Some(2)),
+            (b"a\nb\nc", Some(3)),
+            (b"a\nb\n", Some(3)),
+            (b"a\nb\nc\nd\n", Some(4)),
+        ] {
+            assert_eq!(first_other_line(text, other), line, "{}", text.escape_ascii());
+        }
+    }
+}

@@ -1,0 +1,47 @@
+//! Presets on the command line: files, of which one may be standard input.
+
+use crate::chip::ram::Ram;
+use crate::commands::arguments::{Argument, Arguments};
+use crate::fault::Fault;
+use crate::files::is_standard;
+use crate::images::{self, preset};
+use std::fs::File;
+use std::io;
+use std::path::Path;
+
+/// The files of a command that has no options.
+pub fn files<'a>(arguments: &mut Arguments<'a>) -> Result<Vec<&'a Path>, Fault> {
+    let mut files = Vec::new();
+    while let Some(argument) = arguments.next() {
+        match argument {
+            Argument::Option(option) => return Err(arguments.unknown(option)),
+            Argument::File(file) => files.push(Path::new(file)),
+        }
+    }
+    arguments.standard_input_once(files.iter().copied())?;
+    Ok(files)
+}
+
+/// What a file is called where something is told of it.
+pub fn called(file: &Path) -> &Path {
+    match is_standard(file) {
+        true => Path::new("standard input"),
+        false => file,
+    }
+}
+
+pub fn text(file: &Path) -> Result<Vec<u8>, Fault> {
+    if is_standard(file) {
+        return images::text(called(file), io::stdin());
+    }
+    images::text(file, File::open(file).map_err(|error| Fault::of_file(file, "read", &error))?)
+}
+
+pub fn read(file: &Path) -> Result<Ram, Fault> {
+    preset::load(called(file), &text(file)?)
+}
+
+/// How many cells are not 0.
+pub fn used(ram: &Ram) -> usize {
+    ram.iter().filter(|cell| **cell != 0).count()
+}

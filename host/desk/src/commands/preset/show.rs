@@ -1,0 +1,22 @@
+//! `desk preset show`: the cells of a preset in the rows and columns of DP.
+
+use super::file;
+use crate::chip::ram::{self, Ram};
+use crate::commands::arguments::Arguments;
+use crate::fault::Fault;
+use crate::output::print_lines;
+
+const USE: &str = "expected `desk preset show FILE`, where - is standard input";
+
+pub fn command(arguments: &[String]) -> Result<(), Fault> {
+    let mut arguments = Arguments::new(USE, arguments);
+    let [preset] = file::files(&mut arguments)?[..] else { return Err(arguments.bad("one preset")) };
+    print_lines(&table(&file::read(preset)?))
+}
+
+/// The columns over the cells, and before each row its bits.
+fn table(cells: &Ram) -> Vec<String> {
+    let rows = ram::rows().map(|from| format!("{}  {}", ram::row_bits(from), ram::row(from, cells, cells, None)));
+    let lines = [format!("row  {}", ram::header())].into_iter().chain(rows);
+    lines.map(|line| line.trim_end().to_string()).collect()
+}
