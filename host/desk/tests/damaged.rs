@@ -1,8 +1,8 @@
-//! Damaged scripts, records, images and sound files: nothing panics, and what is accepted is sound. Some thousand by default, as many as DAMAGED
+//! Damaged scripts, records, images, presets and sound files: nothing panics, and what is accepted is sound. Some thousand by default, as many as DAMAGED
 //! says in a long run (`make damaged-long`); the sequence is the same every time.
 
 use desk::fault::{Fault, Spot};
-use desk::images::{load, Image};
+use desk::images::{load, preset, Image};
 use desk::records::compact::{Reader, Writer};
 use desk::records::{self, Form};
 use desk::scripts::reader::read_text;
@@ -123,10 +123,10 @@ fn damaged_images_are_loaded_or_refused_with_what_is_wrong() {
     let mut random = Random::new(0x77e1);
     let (mut loaded, mut refused) = (0, [0; 5]);
     for _ in 0..how_many() {
-        let text = damaged_image(&mut random);
+        let text = damaged_image(&mut random, IMAGE);
         match load(Image::Program, Path::new("damaged"), &text) {
             Ok(words) => {
-                assert!(words == plainly_read(&text), "{}", text.escape_ascii());
+                assert!(words == plainly_read::<2048, 4>(&text), "{}", text.escape_ascii());
                 loaded += 1;
             }
             Err(fault) => refused[explained(&text, &fault) - 12] += 1,
@@ -136,17 +136,52 @@ fn damaged_images_are_loaded_or_refused_with_what_is_wrong() {
     assert!(loaded > 0 && refused.iter().all(|count| *count > 0), "{loaded} were loaded and {refused:?} refused");
 }
 
+/// The channel map of a day.
+const PRESET: &[u8] = include_bytes!("../../../examples/presets/monday.hex");
+
+#[test]
+fn damaged_presets_are_loaded_or_refused_and_half_a_one_never_is_loaded() {
+    let mut random = Random::new(0x77e2);
+    let (mut loaded, mut refused) = (0, [0; 5]);
+    for _ in 0..how_many() {
+        let text = damaged_image(&mut random, PRESET);
+        match preset::load(Path::new("damaged"), &text) {
+            Ok(cells) => {
+                let cells = cells.map(u32::from);
+                assert!(cells[..] == plainly_read::<256, 2>(&text) && data_bytes(&text) == 256, "{}", text.escape_ascii());
+                assert_eq!(load(Image::Preset, Path::new("again"), &text), Ok(cells.to_vec()));
+                written_again_as_a_preset(&cells.map(|cell| cell as u16));
+                loaded += 1;
+            }
+            Err(fault) => refused[explained(&text, &fault) - 12] += 1,
+        }
+    }
+    assert!(loaded > 0 && refused.iter().all(|count| *count > 0), "{loaded} were loaded and {refused:?} refused");
+}
+
+/// What was loaded is loaded from the text that is written of it, as the same.
+fn written_again_as_a_preset(cells: &[u16; 128]) {
+    let text = preset::written(cells).expect("a text");
+    assert_eq!(preset::load(Path::new("written"), text.as_bytes()).as_ref(), Ok(cells));
+}
+
+/// How many bytes the data records of a text that is good have together.
+fn data_bytes(text: &[u8]) -> usize {
+    let records = text.split(|byte| *byte == b'\n').filter_map(bytes_of);
+    records.filter(|record| record.get(3) == Some(&0)).map(|record| usize::from(record[0])).sum()
+}
+
 /// An image with hurts in one of its lines, or with lines that were taken out, doubled or exchanged; the check byte of a line that was hurt is
 /// made good one time in two, so that what comes behind it is reached.
-fn damaged_image(random: &mut Random) -> Vec<u8> {
-    let mut lines: Vec<Vec<u8>> = IMAGE.split_inclusive(|byte| *byte == b'\n').map(<[u8]>::to_vec).collect();
+fn damaged_image(random: &mut Random, image: &[u8]) -> Vec<u8> {
+    let mut lines: Vec<Vec<u8>> = image.split_inclusive(|byte| *byte == b'\n').map(<[u8]>::to_vec).collect();
     let (at, other) = (random.place(lines.len()), random.place(lines.len()));
     match random.below(8) {
         0 => drop(lines.remove(at)),
         1 => lines.insert(other, lines[at].clone()),
         2 => lines.swap(at, other),
         3 => drop(lines.pop()),
-        4 => return damaged(random, IMAGE),
+        4 => return damaged(random, image),
         _ => {
             lines[at] = damaged(random, &lines[at]);
             if random.flag() {
@@ -172,16 +207,16 @@ fn bytes_of(line: &[u8]) -> Option<Vec<u8>> {
     (0..digits.len() / 2).map(|at| u8::from_str_radix(digits.get(2 * at..2 * at + 2)?, 16).ok()).collect()
 }
 
-/// The words of a text that is good.
-fn plainly_read(text: &[u8]) -> Vec<u32> {
-    let mut image = [0; 2048];
+/// The words or cells of a text that is good, by so many bytes in all and in each.
+fn plainly_read<const ALL: usize, const EACH: usize>(text: &[u8]) -> Vec<u32> {
+    let mut image = [0; ALL];
     for record in text.split(|byte| *byte == b'\n').filter_map(bytes_of) {
         if let [1..=255, high, low, 0, data @ .., _] = record.as_slice() {
             let from = usize::from(*high) * 256 + usize::from(*low);
             image[from..from + data.len()].copy_from_slice(data);
         }
     }
-    image.chunks_exact(4).map(|word| word.iter().rev().fold(0, |number, byte| number << 8 | u32::from(*byte))).collect()
+    image.chunks_exact(EACH).map(|word| word.iter().rev().fold(0, |number, byte| number << 8 | u32::from(*byte))).collect()
 }
 
 /// The number of a refusal, which has its line within the text, says what is wrong, and shows the line.

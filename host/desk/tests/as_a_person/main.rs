@@ -11,6 +11,7 @@ mod help;
 mod images;
 mod memory;
 mod mix;
+mod presets;
 mod progress;
 mod run;
 mod trace;

@@ -18,10 +18,10 @@ const LAST_CELL: [u32; 2] = [0x603fe5, 0x000061];
 /// JNSIAK 000H; MOV @A,SIM; MOV @SOM,RO; JMP 000H: for each sample the first cell of the data ROM is sent.
 const SENDS_CELL: [u32; 4] = [0x4b4000, 0x0000b1, 0x000069, 0x500000];
 
-const END: &str = ":00000001FF\n";
+pub const END: &str = ":00000001FF\n";
 
 /// One record of a text.
-fn record(address: usize, kind: u8, data: &[u8]) -> String {
+pub fn record(address: usize, kind: u8, data: &[u8]) -> String {
     let mut bytes = vec![data.len() as u8, (address >> 8) as u8, address as u8, kind];
     bytes.extend(data);
     bytes.push(bytes.iter().fold(0, |check, byte| check.wrapping_sub(*byte)));
@@ -30,27 +30,27 @@ fn record(address: usize, kind: u8, data: &[u8]) -> String {
 }
 
 /// A text of records with sixteen bytes each, and the end record.
-fn text(bytes: &[u8]) -> String {
+pub fn text(bytes: &[u8]) -> String {
     let records = bytes.chunks(16).enumerate().map(|(at, data)| record(16 * at, 0, data));
     records.collect::<String>() + END
 }
 
 /// The image of a program that begins with these words; zeros are behind them.
-fn program(words: &[u32]) -> String {
+pub fn program(words: &[u32]) -> String {
     let mut bytes: Vec<u8> = words.iter().flat_map(|word| word.to_le_bytes()).collect();
     bytes.resize(2048, 0);
     text(&bytes)
 }
 
 /// The image of a data ROM with this in one cell, and zeros in all others.
-fn data(cell: usize, value: u16) -> String {
+pub fn data(cell: usize, value: u16) -> String {
     let mut bytes = [0; 1024];
     bytes[2 * cell..2 * cell + 2].copy_from_slice(&value.to_le_bytes());
     text(&bytes)
 }
 
 /// A text whose line, counted from 1, is another.
-fn with_line(text: &str, line: usize, other: &str) -> String {
+pub fn with_line(text: &str, line: usize, other: &str) -> String {
     let mut lines: Vec<&str> = text.split_inclusive('\n').collect();
     lines[line - 1] = other;
     lines.concat()
