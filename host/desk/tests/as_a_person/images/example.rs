@@ -1,7 +1,7 @@
 //! The example in `examples/intel_hex`: its image is the mixing program, and its script holds.
 
 use crate::folder::{desk_in, examples, repository, Folder};
-use crate::run::examples::made_wrong;
+use crate::run::examples::every_expectation_is_held;
 use desk::images::{load, Image};
 use desk::scripts::given::Images;
 use desk::scripts::reader::Reader;
@@ -34,16 +34,7 @@ fn every_expectation_of_the_script_is_held() {
     for name in FILES {
         folder.write(name, fs::read(examples().join(name)).expect("an example"));
     }
-    let script = folder.text(FILES[3]);
-    let lines: Vec<&str> = script.lines().collect();
-    let wrong = lines.iter().enumerate().filter_map(|(at, line)| Some((at, made_wrong(line)?)));
-    for (at, line) in wrong {
-        let mut changed = lines.clone();
-        changed[at] = &line;
-        folder.write("intel_hex/wrong.desk", changed.join("\n"));
-        let ran = folder.desk("run --quiet intel_hex/wrong.desk");
-        assert!(ran.status == 1 && ran.told.starts_with(&format!("desk: intel_hex/wrong.desk:{}:1: expected ", at + 1)), "{line}: {ran:?}");
-    }
+    every_expectation_is_held(&folder, FILES[3]);
 }
 
 /// By the image the same track is mixed, and is checked as that.

@@ -2,7 +2,7 @@
 
 use super::{half_is_refused, preset, Cells};
 use crate::folder::{desk_in, examples, repository, Folder};
-use crate::run::examples::made_wrong;
+use crate::run::examples::every_expectation_is_held;
 use bemulatsho::Loading;
 use desk::scripts::given::Images;
 use desk::scripts::reader::Reader;
@@ -71,16 +71,7 @@ fn the_script_holds() {
 
 #[test]
 fn every_expectation_of_the_script_is_held() {
-    let folder = copied();
-    let script = folder.text("two_languages.desk");
-    let lines: Vec<&str> = script.lines().collect();
-    for (at, line) in lines.iter().enumerate().filter_map(|(at, line)| Some((at, made_wrong(line)?))) {
-        let mut changed = lines.clone();
-        changed[at] = &line;
-        folder.write("wrong.desk", changed.join("\n"));
-        let ran = folder.desk("run --quiet wrong.desk");
-        assert!(ran.status == 1 && ran.told.starts_with(&format!("desk: wrong.desk:{}:1: expected ", at + 1)), "{line}: {ran:?}");
-    }
+    every_expectation_is_held(&copied(), "two_languages.desk");
 }
 
 /// In Tuesday's place its half is refused with 15 in its ninth line, and nothing is played.

@@ -50,8 +50,23 @@ fn played(text: &str) -> Result<(), Fault> {
     player.settle()
 }
 
+/// Makes each expectation of a script wrong, one at a time, in a script beside it.
+#[track_caller]
+pub fn every_expectation_is_held(folder: &Folder, script: &str) {
+    let text = folder.text(script);
+    let lines: Vec<&str> = text.lines().collect();
+    let wrong = Path::new(script).with_file_name("wrong.desk").display().to_string();
+    for (at, line) in lines.iter().enumerate().filter_map(|(at, line)| Some((at, made_wrong(line)?))) {
+        let mut changed = lines.clone();
+        changed[at] = &line;
+        folder.write(&wrong, changed.join("\n"));
+        let ran = folder.desk(&format!("run --quiet {wrong}"));
+        assert!(ran.status == 1 && ran.told.starts_with(&format!("desk: {wrong}:{}:1: expected ", at + 1)), "{line}: {ran:?}");
+    }
+}
+
 /// An expectation with another number at its end.
-pub fn made_wrong(line: &str) -> Option<String> {
+fn made_wrong(line: &str) -> Option<String> {
     let mut words: Vec<&str> = line.split('#').next()?.split_whitespace().collect();
     if !matches!(words.first(), Some(&"expect" | &"reply" | &"sent")) {
         return None;
