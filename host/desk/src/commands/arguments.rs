@@ -40,6 +40,18 @@ impl<'a> Arguments<'a> {
         files
     }
 
+    /// All words of a command that has no options.
+    pub fn only_files(&mut self) -> Result<Vec<&'a str>, Fault> {
+        let mut files = Vec::new();
+        while let Some(argument) = self.next() {
+            match argument {
+                Argument::Option(option) => return Err(self.unknown(option)),
+                Argument::File(file) => files.push(file),
+            }
+        }
+        Ok(files)
+    }
+
     fn is_file(&self, word: &str) -> bool {
         self.only_files || word == "-" || !word.starts_with('-')
     }

@@ -1,6 +1,6 @@
 //! `desk convert`: a record from text into the compact form, or back.
 
-use crate::commands::arguments::{Argument, Arguments};
+use crate::commands::arguments::Arguments;
 use crate::fault::Fault;
 use crate::files::{self, NewFile};
 use crate::progress::{Meter, Progress};
@@ -12,15 +12,8 @@ use std::path::Path;
 const USE: &str = "expected `desk convert RECORD OTHER`, where - is standard input or output";
 
 pub fn command(arguments: &[String]) -> Result<(), Fault> {
-    let mut names = Vec::new();
     let mut arguments = Arguments::new(USE, arguments);
-    while let Some(argument) = arguments.next() {
-        match argument {
-            Argument::Option(option) => return Err(arguments.unknown(option)),
-            Argument::File(name) => names.push(name),
-        }
-    }
-    let [from, to] = names[..] else { return Err(arguments.bad("a record and a file to write")) };
+    let [from, to] = arguments.only_files()?[..] else { return Err(arguments.bad("a record and a file to write")) };
     let mut record = records::open(Path::new(from))?;
     let path = Path::new(to);
     if files::is_standard(path) {

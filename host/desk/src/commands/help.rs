@@ -165,7 +165,7 @@ loaded whole or refused: half a preset is refusal 15, and the RAM keeps every ce
   show    the cells in rows of sixteen. The row is DP's bits 6 to 4, which DPH-M changes, the column its bits 3 to 0.
   diff    a line a cell that differs. Status 0 if none does, 1 if some do, 2 if one is no preset.
 
-  --events N       play the first N events; 0 writes the RAM as it is given before the first event
+  --events N       play only the first N events, of no fewer; 0 writes the RAM as it is given before the first
   --program FILE   the program, an image in Intel HEX, given before the script's own statements
   --data FILE      the data ROM, in the same way
   --preset FILE    all 128 cells of the RAM, in the same way

@@ -1,7 +1,7 @@
 //! Presets on the command line: files, of which one may be standard input.
 
 use crate::chip::ram::Ram;
-use crate::commands::arguments::{Argument, Arguments};
+use crate::commands::arguments::Arguments;
 use crate::fault::Fault;
 use crate::files::is_standard;
 use crate::images::{self, preset};
@@ -9,15 +9,9 @@ use std::fs::File;
 use std::io;
 use std::path::Path;
 
-/// The files of a command that has no options.
+/// The presets of a command that has no options.
 pub fn files<'a>(arguments: &mut Arguments<'a>) -> Result<Vec<&'a Path>, Fault> {
-    let mut files = Vec::new();
-    while let Some(argument) = arguments.next() {
-        match argument {
-            Argument::Option(option) => return Err(arguments.unknown(option)),
-            Argument::File(file) => files.push(Path::new(file)),
-        }
-    }
+    let files: Vec<&Path> = arguments.only_files()?.into_iter().map(Path::new).collect();
     arguments.standard_input_once(files.iter().copied())?;
     Ok(files)
 }
