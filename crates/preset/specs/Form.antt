@@ -8,7 +8,7 @@ use Rattle.image.specs.Quoted.{quoted}
 use Rattle.image.specs.Lines.{lines}
 use Rattle.image.specs.IntelHex.{ending, recordHead}
 
--- "sixteen bytes": a good data record of them at an address, "in capitals", ended "by a line feed" alone
+-- "sixteen bytes": a good data record of them at an address, "in capitals", with no character from a (97) on, ended "by a line feed" alone
 pub record DataLine (address : ℕ) (line : List ℕ) : Type 0 where
   pub says : recordHead line ≡ record { number = 0; kind = 0; address = address; length = 16 }
   pub inCapitals : Every (λ c. c < 97) line
