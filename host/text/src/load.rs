@@ -5,6 +5,8 @@ use crate::refusal::Refusal;
 
 /// Instruction words of a program, and cells of a data ROM.
 const CELLS: usize = 512;
+/// "A preset is the 128 RAM cells"
+const RAM_CELLS: usize = 128;
 
 /// 0 or the refusal's number, and the line that decided, counted from 1
 #[derive(Clone, Copy, Debug, PartialEq, Eq)]
@@ -15,20 +17,25 @@ pub struct Outcome {
 
 /// "instruction word n at addresses 4n to 4n+3"
 pub fn load_program(text: &[u8], image: &mut [u32]) -> Outcome {
-    load(text, image, 4, |value| value as u32)
+    load(text, image, CELLS, 4, |value| value as u32)
 }
 
 /// "data cell n at 2n and 2n+1"
 pub fn load_data(text: &[u8], image: &mut [u16]) -> Outcome {
-    load(text, image, 2, |value| value as u16)
+    load(text, image, CELLS, 2, |value| value as u16)
 }
 
-fn load<Cell>(text: &[u8], image: &mut [Cell], bytes_per_cell: usize, cell: impl Fn(u64) -> Cell) -> Outcome {
+/// "256 bytes from address 0 in Intel HEX, low byte first. [..] Loading follows E1"
+pub fn load_preset(text: &[u8], ram: &mut [u16]) -> Outcome {
+    load(text, ram, RAM_CELLS, 2, |value| value as u16)
+}
+
+fn load<Cell>(text: &[u8], image: &mut [Cell], cells: usize, bytes_per_cell: usize, cell: impl Fn(u64) -> Cell) -> Outcome {
     // "1 for a lent image of the wrong length, before the rest"
-    if image.len() != CELLS {
-        return Outcome { number: Refusal::ImageLength.number(), line: 0 };
+    if image.len() != cells {
+        return Outcome { number: Refusal::LentLength.number(), line: 0 };
     }
-    let (line, gathered) = gather(text, CELLS * bytes_per_cell);
+    let (line, gathered) = gather(text, cells * bytes_per_cell);
     match gathered {
         // "An image is filled whole or not touched."
         Err(refusal) => Outcome { number: refusal.number(), line },

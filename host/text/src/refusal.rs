@@ -2,7 +2,7 @@
 
 #[derive(Clone, Copy, Debug, PartialEq, Eq)]
 pub enum Refusal {
-    ImageLength = 1,
+    LentLength = 1,
     CharacterOrLength = 12,
     CheckByte = 13,
     Type = 14,

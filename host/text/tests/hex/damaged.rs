@@ -80,7 +80,7 @@ fn judge(text: &[u8], outcome: (u8, usize), same: impl Fn() -> bool) {
 }
 
 /// A good text of bytes at random: records of any length in any order, either ending, capitals or small letters.
-fn any_text(random: &mut Random, size: usize) -> Vec<u8> {
+pub fn any_text(random: &mut Random, size: usize) -> Vec<u8> {
     let bytes: Vec<u8> = (0..size).map(|_| random.word() as u8).collect();
     let longest = random.pick(&[16, 32, 255]);
     let mut lines = Vec::new();
@@ -101,7 +101,7 @@ fn any_text(random: &mut Random, size: usize) -> Vec<u8> {
 }
 
 /// One damage to a byte or a line.
-fn damaged(random: &mut Random, good: &[u8]) -> Vec<u8> {
+pub fn damaged(random: &mut Random, good: &[u8]) -> Vec<u8> {
     let characters = b"0123456789ABCDEFabcdef:\r\n xg\0\xFF";
     let mut text = good.to_vec();
     let place = random.place(text.len());

@@ -1,4 +1,4 @@
-//! Every sentence of the rules on Intel HEX, as one text or more.
+//! Every sentence of the rules on Intel HEX and on presets, as one text or more.
 
 mod addresses;
 mod character_or_length;
@@ -12,6 +12,7 @@ mod letters;
 mod line_endings;
 mod order;
 mod places;
+mod presets;
 mod tools;
 mod types;
 mod writer;
