@@ -1,5 +1,8 @@
-//! Holds the proved core, through the desk's library, against the independent emulator. Prints what was compared; the first
-//! difference is printed with what was lent and ends it with status 1.
+//! Holds the proved core, through the desk's library, against the independent emulator, and the proved readers and writer of texts against
+//! second ones. Prints what was compared; the first difference is printed with what was lent and ends it with status 1.
+
+#[macro_use]
+mod listed;
 
 mod arithmetic;
 mod chip_values;
@@ -9,6 +12,7 @@ mod listings;
 mod machines;
 mod mixing;
 mod pair;
+mod presets;
 mod states;
 mod texts;
 mod tracks;
@@ -20,6 +24,7 @@ use std::process::exit;
 const SEED: u64 = 0x7720;
 const EVENTS: u64 = 2_000_000;
 const TEXTS: u64 = 1_000_000;
+const PRESETS: u64 = 1_000_000;
 
 fn main() {
     let arguments: Vec<String> = std::env::args().skip(1).collect();
@@ -27,8 +32,9 @@ fn main() {
         [] => everything(),
         ["machines", seed, events] => random_machines(number("seed", seed), number("number of events", events)),
         ["texts", seed, texts] => random_texts(number("seed", seed), number("number of texts", texts)),
+        ["presets", seed, presets] => random_presets(number("seed", seed), number("number of presets", presets)),
         _ => {
-            eprintln!("usage: compare | compare machines SEED EVENTS | compare texts SEED TEXTS");
+            eprintln!("usage: compare | compare machines SEED EVENTS | compare texts SEED TEXTS | compare presets SEED PRESETS");
             exit(2);
         }
     };
@@ -62,7 +68,8 @@ fn everything() -> Result<(), String> {
     let (samples, clipped) = tracks::compare()?;
     report(samples, &format!("samples of twelve tracks of three sources ({clipped} clipped), within the bound of exact arithmetic"));
     report(mixing::compare()?, "words of the mixing loop, ending where other emulators of the chip end");
-    random_texts(SEED, TEXTS)
+    random_texts(SEED, TEXTS)?;
+    random_presets(SEED, PRESETS)
 }
 
 /// Random machines; a failure prints the seed of its machine and the smallest case.
@@ -83,6 +90,13 @@ fn random_machines(seed: u64, events: u64) -> Result<(), String> {
 fn random_texts(seed: u64, texts: u64) -> Result<(), String> {
     let done = texts::compare(seed, texts, progress(texts, 80_000, "texts"))?;
     report(done, &format!("texts of Intel HEX from seed {seed}, whole and damaged, read as the second reader reads them"));
+    Ok(())
+}
+
+/// Random RAMs and corners; a failure prints the number and the cells of its RAM.
+fn random_presets(seed: u64, presets: u64) -> Result<(), String> {
+    let met = presets::compare(seed, presets, progress(presets, 100_000, "presets"))?;
+    report(presets, &format!("presets from seed {seed}, written as the second writer writes them and read back: {met}"));
     Ok(())
 }
 

@@ -4,21 +4,8 @@ use super::made::Made;
 use super::record::Record;
 use random::Random;
 
-/// Each kind of damage once: its name, and its place in the list of all.
-macro_rules! damages {
-    ($($name:ident),*) => {
-        #[derive(Clone, Copy, Debug, PartialEq, Eq)]
-        pub enum Damage {
-            $($name),*
-        }
-
-        impl Damage {
-            pub const ALL: &'static [Damage] = &[$(Damage::$name),*];
-        }
-    };
-}
-
-damages!(
+listed!(
+    Damage:
     ByteChanged,
     ByteDropped,
     ByteDoubled,
