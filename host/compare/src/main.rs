@@ -88,8 +88,8 @@ fn random_machines(seed: u64, events: u64) -> Result<(), String> {
 
 /// Random texts; a failure prints the seed of its image and the smallest text.
 fn random_texts(seed: u64, texts: u64) -> Result<(), String> {
-    let done = texts::compare(seed, texts, progress(texts, 80_000, "texts"))?;
-    report(done, &format!("texts of Intel HEX from seed {seed}, whole and damaged, read as the second reader reads them"));
+    let (done, forms) = texts::compare(seed, texts, progress(texts, 80_000, "texts"))?;
+    report(done, &format!("texts of Intel HEX from seed {seed}, whole and damaged, read as the second reader reads them; {forms}"));
     Ok(())
 }
 

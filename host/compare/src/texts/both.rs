@@ -1,23 +1,20 @@
 //! One text given to both readers, with an image each that holds the same before.
 
-use super::CELLS;
+use super::back;
+use super::kind::Kind;
+use bemulatsho::Loading;
 use random::Random;
-
-/// The lent images: words or cells.
-enum Images {
-    Program { proved: Vec<u32>, second: Vec<u32> },
-    Data { proved: Vec<u16>, second: Vec<u16> },
-}
+use text::Outcome;
 
 pub struct Both {
-    width: usize,
+    kind: Kind,
     /// What the image holds before a call.
     before: u32,
 }
 
-/// A text on which the two readers differ.
+/// A text on which the two readers differ, or a preset that is not written back as it should.
 pub struct Difference {
-    width: usize,
+    kind: Kind,
     before: u32,
     length: usize,
     text: Vec<u8>,
@@ -39,51 +36,48 @@ struct Left {
 }
 
 impl Both {
-    pub fn new(random: &mut Random, width: usize) -> Both {
-        Both { width, before: random.next() as u32 }
+    pub fn new(random: &mut Random, kind: Kind) -> Both {
+        Both { kind, before: random.next() as u32 }
     }
 
     /// A text that both must take, with the image that it was made of.
     pub fn give_all(&mut self, text: &[u8], bytes: &[u8]) -> Result<(), Difference> {
-        let proved = self.left(text, CELLS)?;
-        let cells: Vec<u32> = bytes.chunks(self.width).map(low_byte_first).collect();
+        let proved = self.left(text, self.kind.cells())?;
+        let cells: Vec<u32> = bytes.chunks(self.kind.width()).map(low_byte_first).collect();
         if proved.decided.number != 0 || proved.image != cells {
-            return Err(self.difference(text, CELLS, format!("made of an image that it does not bring: {}", told(&proved))));
+            return Err(self.difference(text, format!("made of an image that it does not bring: {}", told(&proved))));
         }
         Ok(())
     }
 
     /// Any text: what both say of it.
     pub fn give(&mut self, text: &[u8]) -> Result<Decided, Difference> {
-        Ok(self.left(text, CELLS)?.decided)
+        Ok(self.left(text, self.kind.cells())?.decided)
     }
 
     /// A text that both must refuse.
     pub fn refuse(&mut self, text: &[u8]) -> Result<Decided, Difference> {
         let decided = self.give(text)?;
         match decided.number {
-            0 => Err(self.difference(text, CELLS, "taken, and was to be refused".to_string())),
+            0 => Err(self.difference(text, "taken, and was to be refused".to_string())),
             _ => Ok(decided),
         }
     }
 
     /// An image of another length than the chip's.
     pub fn wrong_length(&mut self, random: &mut Random, text: &[u8]) -> Result<(), Difference> {
-        let length = random.pick(&[0, 1, 128, CELLS - 1, CELLS + 1, 2 * CELLS]);
+        let cells = self.kind.cells();
+        let length = random.pick(&[0, 1, cells / 4, cells - 1, cells + 1, 2 * cells, 4 * cells]);
         let proved = self.left(text, length)?;
         match proved.decided {
             Decided { number: 1, line: 0 } => Ok(()),
-            _ => Err(self.difference(text, length, format!("an image of {length} cells: {}", told(&proved)))),
+            _ => Err(Difference { length, ..self.difference(text, told(&proved)) }),
         }
     }
 
     /// What both leave, if it is the same.
     fn left(&self, text: &[u8], length: usize) -> Result<Left, Difference> {
-        let (proved, second) = run(self.width, self.before, text, length);
-        match proved == second {
-            true => Ok(proved),
-            false => Err(self.difference(text, length, format!("{}, second reader {}", told(&proved), told(&second)))),
-        }
+        left(self.kind, self.before, text, length).map_err(|what| Difference { length, ..self.difference(text, what) })
     }
 
     /// One line, read alone.
@@ -99,37 +93,48 @@ impl Both {
             false => {
                 let bemulatsho::Record { number, kind, address, bytes, .. } = proved;
                 let proved = text::ReadRecord { number, kind, address, bytes, data: part };
-                Err(self.difference(line, CELLS, format!("read alone: {proved:?}, second reader {second:?}")))
+                Err(self.difference(line, format!("read alone: {proved:?}, second reader {second:?}")))
             }
         }
     }
 
-    fn difference(&self, text: &[u8], length: usize, what: String) -> Difference {
-        Difference { width: self.width, before: self.before, length, text: text.to_vec(), what }
+    pub fn difference(&self, text: &[u8], what: String) -> Difference {
+        Difference { kind: self.kind, before: self.before, length: self.kind.cells(), text: text.to_vec(), what }
     }
 }
 
-/// Gives a text to both readers.
-fn run(width: usize, before: u32, text: &[u8], length: usize) -> (Left, Left) {
-    let mut images = match width {
-        4 => Images::Program { proved: vec![before; length], second: vec![before; length] },
-        _ => Images::Data { proved: vec![before as u16; length], second: vec![before as u16; length] },
+/// What both readers leave, or how they differ; of a preset also what is wrong with it written back.
+fn left(kind: Kind, before: u32, text: &[u8], length: usize) -> Result<Left, String> {
+    let (proved, second) = match kind {
+        Kind::Program => read(text, vec![before; length], bemulatsho::load_program, text::load_program),
+        Kind::Data => read(text, vec![before as u16; length], bemulatsho::load_data, text::load_data),
+        Kind::Preset => read(text, vec![before as u16; length], bemulatsho::load_preset, text::load_preset),
     };
-    let (proved, second) = match &mut images {
-        Images::Program { proved, second } => (bemulatsho::load_program(text, proved), text::load_program(text, second)),
-        Images::Data { proved, second } => (bemulatsho::load_data(text, proved), text::load_data(text, second)),
-    };
-    let (first, other) = match images {
-        Images::Program { proved, second } => (proved, second),
-        Images::Data { proved, second } => (wide(&proved), wide(&second)),
-    };
-    let proved = Decided { number: proved.number, line: proved.line };
-    let second = Decided { number: second.number, line: second.line };
-    (Left { decided: proved, image: first }, Left { decided: second, image: other })
+    if proved != second {
+        return Err(format!("{}, second reader {}", told(&proved), told(&second)));
+    }
+    if kind == Kind::Preset && length == kind.cells() {
+        back::check(text, proved.decided, &proved.image)?;
+    }
+    Ok(proved)
 }
 
-fn wide(cells: &[u16]) -> Vec<u32> {
-    cells.iter().map(|cell| u32::from(*cell)).collect()
+/// Gives a text to both readers.
+fn read<Cell: Copy + Into<u32>>(
+    text: &[u8],
+    before: Vec<Cell>,
+    proved: impl Fn(&[u8], &mut [Cell]) -> Loading,
+    second: impl Fn(&[u8], &mut [Cell]) -> Outcome,
+) -> (Left, Left) {
+    let (mut first, mut other) = (before.clone(), before);
+    let Loading { number, line } = proved(text, &mut first);
+    let proved = Left { decided: Decided { number, line }, image: wide(&first) };
+    let Outcome { number, line } = second(text, &mut other);
+    (proved, Left { decided: Decided { number, line }, image: wide(&other) })
+}
+
+fn wide<Cell: Copy + Into<u32>>(cells: &[Cell]) -> Vec<u32> {
+    cells.iter().map(|cell| (*cell).into()).collect()
 }
 
 fn low_byte_first(bytes: &[u8]) -> u32 {
@@ -142,13 +147,12 @@ fn told(left: &Left) -> String {
 }
 
 impl Difference {
-    /// The text with lines left out, and then characters, as long as the two readers differ on it.
+    /// The text with lines left out, and then characters, as long as something is wrong with it.
     pub fn smallest(mut self) -> String {
         let lines = self.text.split_inclusive(|character| *character == b'\n').map(<[u8]>::to_vec).collect();
         let lines = self.fewest(lines);
         self.fewest(lines.concat().into_iter().map(|character| vec![character]).collect());
-        let image = if self.width == 4 { "program" } else { "data ROM" };
-        format!("{image} of {} cells: {}\n{:?}", self.length, self.what, String::from_utf8_lossy(&self.text))
+        format!("{} of {} cells: {}\n{:?}", self.kind.name(), self.length, self.what, String::from_utf8_lossy(&self.text))
     }
 
     /// Leaves out parts of the text, large ones first.
@@ -160,13 +164,13 @@ impl Difference {
                 let mut fewer = parts.clone();
                 fewer.drain(from..(from + count).min(fewer.len()));
                 let text = fewer.concat();
-                let (proved, second) = run(self.width, self.before, &text, self.length);
-                if proved == second {
-                    from += count;
-                } else {
-                    self.what = format!("{}, second reader {}", told(&proved), told(&second));
-                    self.text = text;
-                    parts = fewer;
+                match left(self.kind, self.before, &text, self.length) {
+                    Ok(_) => from += count,
+                    Err(what) => {
+                        self.what = what;
+                        self.text = text;
+                        parts = fewer;
+                    }
                 }
             }
             count /= 2;

@@ -1,5 +1,5 @@
-//! What the compared texts met: every length of a record in a text that was taken, each damage, each refusal in first, middle and last
-//! lines. Something that was never met is a failure of the comparison.
+//! What the compared texts of one kind of image met: every length of a record in a text that was taken, each damage, each refusal in first,
+//! middle and last lines. Something that was never met is a failure of the comparison.
 
 use super::both::Decided;
 use super::damage::Damage;
@@ -43,8 +43,8 @@ impl Met {
         self.places[usize::from(decided.number)][place] += 1;
     }
 
-    /// What was never met.
-    pub fn missing(&self) -> Vec<String> {
+    /// What was never met of this kind.
+    pub fn missing(&self, kind: &str) -> Vec<String> {
         let mut missing = Vec::new();
         for (length, count) in self.lengths.iter().enumerate() {
             if *count == 0 {
@@ -68,6 +68,6 @@ impl Met {
                 }
             }
         }
-        missing
+        missing.into_iter().map(|what| format!("{kind}: {what}")).collect()
     }
 }

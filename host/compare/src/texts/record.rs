@@ -31,6 +31,9 @@ pub enum Endings {
 }
 
 impl Style {
+    /// What the writer of presets has.
+    pub const WRITTEN: Style = Style { letters: Letters::Capital, endings: Endings::LineFeed };
+
     pub fn any(random: &mut Random) -> Style {
         Style {
             letters: random.pick(&[Letters::Capital, Letters::Small, Letters::Mixed]),
