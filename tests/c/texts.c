@@ -300,14 +300,6 @@ static void records(void)
 
 /* ---- damage */
 
-static uint32_t drawn = 0x7720;
-
-static uint32_t draw(uint32_t limit)
-{
-    drawn = drawn * 1664525u + 1013904223u;
-    return (drawn >> 8) % limit;
-}
-
 /* Damaged texts, each in memory of exactly its length: a memory checker sees any access outside. */
 static void damaged_texts(unsigned texts)
 {
@@ -318,9 +310,7 @@ static void damaged_texts(unsigned texts)
         size_t length = draw(4) == 0 ? draw((uint32_t)whole.length) : whole.length;
         uint8_t *text = (uint8_t *)lend(length, 1);
         memcpy(text, whole.bytes, length);
-        for (unsigned changes = draw(3); changes > 0 && length > 0; changes--) {
-            text[draw((uint32_t)length)] = draw(2) == 0 ? (uint8_t)draw(256) : (uint8_t) "0F\n\r:"[draw(5)];
-        }
+        damage(text, length);
         for (unsigned cell = 0; cell < BEMULATSHO_CELLS; cell++) {
             image[cell] = 7;
         }
