@@ -1,7 +1,9 @@
 //! Each call of the wrapper, with answers from the rules.
 
-use bemulatsho::{build, event, fresh_registers, kind, load_data, load_program, read_record, take_apart, version};
-use bemulatsho::{JpFields, LdiFields, Loading, OpFields, Record, Registers, Reply, Word};
+use bemulatsho::{
+    build, event, fresh_registers, kind, load_data, load_preset, load_program, read_record, take_apart, version, write_preset,
+};
+use bemulatsho::{JpFields, LdiFields, Loading, OpFields, Record, Registers, Reply, Word, Writing, PRESET_TEXT, RAM};
 
 fn run(word: u32, registers: &mut Registers) -> Reply {
     let mut program = [0; bemulatsho::WORDS];
@@ -72,4 +74,55 @@ fn the_data_characters_are_the_very_part_of_the_line() {
     assert_eq!(record, Record { number: 0, kind: 0, address: 0x30, bytes: 3, data: b"02337A" });
     assert_eq!(record.data.as_ptr(), line[9..].as_ptr());
     assert_eq!(read_record(b":0300300002337A1F\n"), Record { number: 13, ..Record::default() });
+}
+
+/// A RAM of which each cell holds its own number, and its text; the bytes of the first record are 0, 0, 1, 0, .. 7, 0 and with its length, 16,
+/// they add up to 2CH, so that its check byte is D4; of the last they are 120 to 127 and 0s, and with 16 and the address F0H 4DCH.
+fn own_numbers() -> ([u16; RAM], [u8; PRESET_TEXT]) {
+    let ram = std::array::from_fn(|place| place as u16);
+    let mut text = [0; PRESET_TEXT];
+    assert_eq!(write_preset(&ram, &mut text), Writing { number: 0, length: 716 });
+    (ram, text)
+}
+
+#[test]
+fn a_preset_is_written_and_read_back() {
+    let (ram, text) = own_numbers();
+    assert!(text.starts_with(b":1000000000000100020003000400050006000700D4\n"));
+    assert!(text.ends_with(b":1000F000780079007A007B007C007D007E007F0024\n:00000001FF\n"));
+    for before in [0, 7, 0xffff] {
+        let mut back = [before; RAM];
+        assert_eq!(load_preset(&text, &mut back), Loading { number: 0, line: 17 });
+        assert_eq!(back, ram);
+    }
+}
+
+#[test]
+fn half_a_preset_leaves_every_cell() {
+    let (_, text) = own_numbers();
+    let half = [&text[..8 * 44], b":00000001FF\n"].concat();
+    let before: [u16; RAM] = std::array::from_fn(|place| 1000 + place as u16);
+    let mut ram = before;
+    assert_eq!(load_preset(&half, &mut ram), Loading { number: 15, line: 9 });
+    assert_eq!(ram, before);
+}
+
+#[test]
+fn a_preset_is_written_whole_or_not_at_all() {
+    let (ram, text) = own_numbers();
+    let mut buffer = [b'~'; 1000];
+    for length in [0, 1, 715] {
+        assert_eq!(write_preset(&ram, &mut buffer[..length]), Writing { number: 1, length: 0 });
+    }
+    assert_eq!(write_preset(&ram[1..], &mut buffer), Writing { number: 1, length: 0 });
+    assert_eq!(write_preset(&[0; RAM + 1], &mut buffer), Writing { number: 1, length: 0 });
+    assert_eq!(buffer, [b'~'; 1000]);
+    for length in [716, 717, 1000] {
+        assert_eq!(write_preset(&ram, &mut buffer[..length]), Writing { number: 0, length: 716 });
+        assert!(buffer[..716] == text && buffer[716..] == [b'~'; 284]);
+    }
+    let (mut short, mut long) = ([7; RAM - 1], [7; RAM + 1]);
+    assert_eq!(load_preset(&text, &mut short), Loading { number: 1, line: 0 });
+    assert_eq!(load_preset(&text, &mut long), Loading { number: 1, line: 0 });
+    assert!(short == [7; RAM - 1] && long == [7; RAM + 1]);
 }

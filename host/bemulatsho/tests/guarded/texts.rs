@@ -1,5 +1,6 @@
 //! Texts: the text, the image and the line at a guard each; damaged texts, texts that are cut, and images of wrong lengths.
 
+use crate::damage::damage;
 use crate::pages::{Guard, Guarded};
 use bemulatsho::{load_data, load_program, read_record, Loading};
 use random::Random;
@@ -14,19 +15,6 @@ fn zeros(bytes: usize, length: usize) -> Vec<u8> {
     }
     text.extend_from_slice(b":00000001FF\n");
     text
-}
-
-/// Changes some characters, and cuts the text now and then.
-fn damage(random: &mut Random, text: &mut Vec<u8>) {
-    if random.one_in(3) {
-        text.truncate(random.place(text.len() + 1));
-    }
-    for _ in 0..random.below(3) {
-        let place = random.place(text.len());
-        if let Some(character) = text.get_mut(place) {
-            *character = if random.flag() { random.next() as u8 } else { random.pick(b"09afAF:\r\n") };
-        }
-    }
 }
 
 fn nothing_outside(guard: Guard) {
