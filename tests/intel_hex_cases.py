@@ -4,16 +4,19 @@
 #   intel_hex_cases.py read DOCUMENT FOLDER TOOL          what srec_cat, objcopy or intelhex does with each case
 #   intel_hex_cases.py mends DOCUMENT FOLDER LOADER       each row's mend gives a text that fills the image
 #   intel_hex_cases.py commands DOCUMENT FOLDER LOADER    so do the commands that write a text; the examples are what they say
+#   intel_hex_cases.py presets DOCUMENT FOLDER LOADER WRITER    the commands for presets write what the library writes, and read it
 #   intel_hex_cases.py count DOCUMENT FOLDER              how many cases there are
-# FOLDER is for what is written meanwhile; LOADER is the program of tests/c/load.c.
+# FOLDER is for what is written meanwhile; LOADER and WRITER are the programs of tests/c/load.c and tests/c/write.c.
 import pathlib
 import random
 import re
 import shutil
 import sys
 
-from intel_hex_images import CELLS, READERS, WIDTH, cells_of, loaded, raw_of, record, run, size_of, untouched
+from intel_hex_images import CELLS, READERS, WIDTH, cells_of, images, loaded, raw_of, record, run, size_of, untouched, written
 
+# What the cases are of.
+KINDS = ['program', 'data']
 DATA_RECORDS = 128
 END = record(1, 0, b'')
 # What stands in the column of mends and is no command.
@@ -180,7 +183,7 @@ def cases(base):
 
 
 def all_cases():
-    return [(kind, name, case) for kind in WIDTH for name, case in cases(Base(kind)).items()]
+    return [(kind, name, case) for kind in KINDS for name, case in cases(Base(kind)).items()]
 
 
 # The document.
@@ -246,7 +249,7 @@ def check_rows(document, folder):
 
 def check_told(document, folder, loader):
     rows, wrong = rows_of(document), []
-    for kind in WIDTH:
+    for kind in KINDS:
         found = cases(Base(kind))
         files = [folder / f'{kind}-{number}.hex' for number in range(len(found))]
         for file, case in zip(files, found.values()):
@@ -324,7 +327,7 @@ def check_mends(document, folder, loader):
 
 def check_commands(document, folder, loader):
     place, filled = folder / 'command', Filled(folder, loader)
-    for kind in WIDTH:
+    for kind in KINDS:
         base = Base(kind)
         short = base.raw[:20]
         for name, raw, image, fillers in [
@@ -341,9 +344,27 @@ def check_commands(document, folder, loader):
     words = [int(word.rstrip('H'), 16) for word in blocks(document, 'text words')[0].split()]
     zeros = [record(0, address, bytes(16)) for address in range(16, size_of('program'), 16)]
     (place / 'example.hex').write_bytes(text([*blocks(document, 'text record')[0].splitlines(), *zeros, END]))
-    filled.add('program', place / 'example.hex', raw_of(words + [0] * (CELLS - len(words)), 'program'), 'the example')
+    filled.add('program', place / 'example.hex', raw_of(words + [0] * (CELLS['program'] - len(words)), 'program'), 'the example')
     said = run_alone(blocks(document, 'sh gaps')[0], place, {'in.hex': cases(Base('program'))['a record missing'].text})
     wrong = [] if said == blocks(document, 'text gaps')[0] else [f'srec_info says\n{said}']
+    return wrong + filled.wrong()
+
+
+def check_presets(document, folder, loader, writer):
+    place, text, filled, wrong = folder / 'preset', folder / 'written.hex', Filled(folder, loader), []
+    for raw in images('preset'):
+        image = folder / 'preset.bin'
+        image.write_bytes(raw)
+        expected = written(writer, image, text)
+        for command in blocks(document, 'sh preset'):
+            said = run_alone(command, place, {'preset.bin': raw})
+            if said or (place / 'preset.hex').read_bytes() != expected:
+                wrong.append(f'{command}writes another text than the library\n{said}')
+            filled.add('preset', place / 'preset.hex', raw, command)
+        for command in blocks(document, 'sh preset back'):
+            said = run_alone(command, place, {'preset.hex': expected})
+            if said or (place / 'preset.bin').read_bytes() != raw:
+                wrong.append(f'{command}reads another preset\n{said}')
     return wrong + filled.wrong()
 
 
@@ -351,7 +372,8 @@ def count(document, folder):
     print(f'{len(rows_of(document))} cases')
 
 
-CHECKS = {'rows': check_rows, 'told': check_told, 'read': check_read, 'mends': check_mends, 'commands': check_commands, 'count': count}
+CHECKS = {'rows': check_rows, 'told': check_told, 'read': check_read, 'mends': check_mends, 'commands': check_commands, 'presets': check_presets,
+          'count': count}
 
 if __name__ == '__main__':
     check, document, folder, *more = sys.argv[1:]

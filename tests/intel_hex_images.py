@@ -1,10 +1,13 @@
 # What tests/intel_hex compares with the tools: images, the texts that a tool writes of them, and what is read from these.
-#   intel_hex_images.py make FOLDER                 the images as raw bytes, low byte first: program-00.bin .. and data-00.bin ..
+#   intel_hex_images.py make FOLDER                 the images as raw bytes, low byte first: program-00.bin .., data-00.bin .. and preset-00.bin ..
 #   intel_hex_images.py write FOLDER TOOL           each image as texts, in every form that the tool has and the rules take
+#   intel_hex_images.py presets FOLDER WRITER       each preset as the library writes it: the texts of the tool "library"
 #   intel_hex_images.py load FOLDER TOOL LOADER     the loader fills the same image from each of these texts
 #   intel_hex_images.py read FOLDER TOOL READER     and another tool reads it
+#   intel_hex_images.py same FOLDER TOOL            in some of its forms the tool writes presets as the library does
 #   intel_hex_images.py count FOLDER                how many images and texts there are
-# TOOL and READER are srec_cat, objcopy or intelhex; TOOL may be chance, whose texts are written here. LOADER is the program of tests/c/load.c.
+# TOOL and READER are srec_cat, objcopy or intelhex; TOOL may be chance, whose texts are written here, and library. LOADER and WRITER are the
+# programs of tests/c/load.c and tests/c/write.c.
 import pathlib
 import random
 import subprocess
@@ -12,14 +15,14 @@ import sys
 
 import intelhex
 
-CELLS = 512
-WIDTH = {'program': 4, 'data': 2}
-BITS = {'program': 23, 'data': 13}
+CELLS = {'program': 512, 'data': 512, 'preset': 128}
+WIDTH = {'program': 4, 'data': 2, 'preset': 2}
+BITS = {'program': 23, 'data': 13, 'preset': 16}
 RANDOM_IMAGES = 8
 
 
 def size_of(kind):
-    return CELLS * WIDTH[kind]
+    return CELLS[kind] * WIDTH[kind]
 
 
 def raw_of(cells, kind):
@@ -45,18 +48,25 @@ def must(*command):
 # The images.
 
 def images(kind):
-    limit, widest, size = 1 << BITS[kind], (1 << 8 * WIDTH[kind]) - 1, size_of(kind)
+    limit, widest, size, cells = 1 << BITS[kind], (1 << 8 * WIDTH[kind]) - 1, size_of(kind), CELLS[kind]
     chance = random.Random(f'intel hex, {kind}')
-    for cell in [0, widest, 1, limit - 1, limit, widest - 1]:
-        yield raw_of([cell] * CELLS, kind)
-    yield raw_of(range(CELLS), kind)
+    for cell in [0, widest, 1, limit - 1, widest - 1]:
+        yield raw_of([cell] * cells, kind)
+    yield raw_of(range(cells), kind)
     yield bytes(place % 256 for place in range(size))
     # The characters that mean something in a text.
     yield bytes(chance.choice(b':\n\r\x1a 0F\x00') for _ in range(size))
-    # One cell too wide among others.
-    yield raw_of([limit if place == 300 else chance.randrange(limit) for place in range(CELLS)], kind)
+    if limit <= widest:
+        # Cells too wide for the chip, and one among others.
+        yield raw_of([limit] * cells, kind)
+        yield raw_of([limit if place == 300 else chance.randrange(limit) for place in range(cells)], kind)
+    else:
+        # High bytes alone, low bytes alone, and one bit.
+        yield raw_of([chance.randrange(256) << 8 for _ in range(cells)], kind)
+        yield raw_of([chance.randrange(256) for _ in range(cells)], kind)
+        yield raw_of([1 << 15 if place == 100 else 0 for place in range(cells)], kind)
     for number in range(RANDOM_IMAGES):
-        yield raw_of([chance.randrange(limit if number % 2 else widest + 1) for _ in range(CELLS)], kind)
+        yield raw_of([chance.randrange(limit if number % 2 else widest + 1) for _ in range(cells)], kind)
 
 
 def make(folder):
@@ -102,9 +112,11 @@ def write_by_objcopy(image, kind, text_file):
     # Not shorter than half: objcopy takes no empty file.
     cut = max(len(raw.rstrip(b'\xff')), len(raw) // 2)
     objcopy('padded', raw[:cut], f'--pad-to={len(raw)}', '--gap-fill=0xFF')
-    rest.write_bytes(raw[333:])
-    objcopy('sections', raw[:333], '--add-section', f'.rest={rest}', '--set-section-flags', '.rest=alloc,load,contents',
-            '--change-section-address', '.rest=333')
+    # At an odd address.
+    odd = len(raw) // 3 | 1
+    rest.write_bytes(raw[odd:])
+    objcopy('sections', raw[:odd], '--add-section', f'.rest={rest}', '--set-section-flags', '.rest=alloc,load,contents',
+            '--change-section-address', f'.rest={odd}')
     source = text_file('source').with_suffix('.raw')
     for form, options in [('short', '-intel -output-block-size=5'), ('extended', '-intel'), ('s-records', '-motorola')]:
         must('srec_cat', image, '-binary', '-o', source, *options.split())
@@ -126,7 +138,7 @@ def write_by_intelhex(image, kind, text_file):
     whole.start_addr = None
     whole.tofile(str(text_file('tofile')), format='hex')
     intelhex.bin2hex(str(image), str(text_file('bin2hex')))
-    if kind == 'data':
+    if WIDTH[kind] == 2:
         # Cell by cell, and intelhex's own low byte first.
         by_cells = intelhex.IntelHex16bit()
         for place, cell in enumerate(cells_of(image.read_bytes(), kind)):
@@ -157,13 +169,48 @@ def write_by_chance(image, kind, text_file):
 WRITERS = {'srec_cat': write_by_srec_cat, 'objcopy': write_by_objcopy, 'intelhex': write_by_intelhex, 'chance': write_by_chance}
 
 
+def images_of(folder, kind):
+    return sorted(folder.glob(f'{kind}-??.bin'))
+
+
+def text_of(image, tool, form):
+    name = ''.join(letter if letter.isalnum() else '-' for letter in form).strip('-')
+    return image.with_name(f'{image.stem}.{tool}.{name}.hex')
+
+
 def write(folder, tool):
     for kind in WIDTH:
-        for image in sorted(folder.glob(f'{kind}-??.bin')):
-            def text_file(form, image=image):
-                name = ''.join(letter if letter.isalnum() else '-' for letter in form).strip('-')
-                return folder / f'{image.stem}.{tool}.{name}.hex'
-            WRITERS[tool](image, kind, text_file)
+        for image in images_of(folder, kind):
+            WRITERS[tool](image, kind, lambda form, image=image: text_of(image, tool, form))
+
+
+# The library's own writer, and the forms in which a tool writes a preset as it does; objcopy ends lines with carriage return and line feed.
+
+SAME_FORMS = {
+    'srec_cat': ['-address-length=2 -output-block-size=16', '-address-length=2 -line-length=44'],
+    'objcopy': ['plain', 'reversed', 'interleaved'],
+    'intelhex': ['16 native', 'no start', 'tofile', 'bin2hex', 'cells'],
+}
+
+
+def written(writer, image, text):
+    """The text of a preset by the library."""
+    must(writer, image, text)
+    return text.read_bytes()
+
+
+def presets(folder, writer):
+    for image in images_of(folder, 'preset'):
+        written(writer, image, text_of(image, 'library', 'written'))
+
+
+def same(folder, tool):
+    for image in images_of(folder, 'preset'):
+        expected = text_of(image, 'library', 'written').read_bytes()
+        for form in SAME_FORMS[tool]:
+            text = text_of(image, tool, form).read_bytes()
+            if (text.replace(b'\r\n', b'\n') if tool == 'objcopy' else text) != expected:
+                sys.exit(f'{image.name}: {tool}, {form}, writes\n{text.decode()}and the library\n{expected.decode()}')
 
 
 # What is read: of each tool the status and whatever it said.
@@ -199,7 +246,11 @@ def loaded(loader, kind, texts):
 
 def untouched(kind):
     """What tests/c/load.c puts into an image before a call."""
-    return [(0x5A5A0000 if kind == 'program' else 0x5A00) + place for place in range(CELLS)]
+    return [(0x5A5A0000 if kind == 'program' else 0x5A00) + place for place in range(CELLS[kind])]
+
+
+def kinds_of(tool):
+    return ['preset'] if tool == 'library' else WIDTH
 
 
 def texts_of(folder, kind, tool):
@@ -214,7 +265,7 @@ def raw_for(text):
 
 
 def load(folder, tool, loader):
-    for kind in WIDTH:
+    for kind in kinds_of(tool):
         texts = texts_of(folder, kind, tool)
         for text, (number, line, cells) in zip(texts, loaded(loader, kind, texts)):
             lines = text.read_bytes().count(b'\n')
@@ -222,13 +273,13 @@ def load(folder, tool, loader):
                 sys.exit(f'{text.name}: the loader answers {number}, line {line}; expected 0, line {lines}')
             expected = cells_of(raw_for(text), kind)
             if cells != expected:
-                place = next(place for place in range(CELLS) if cells[place] != expected[place])
+                place = next(place for place in range(CELLS[kind]) if cells[place] != expected[place])
                 sys.exit(f'{text.name}: cell {place} is {cells[place]:X}H, not {expected[place]:X}H')
 
 
 def read(folder, tool, reader):
     raw = folder / 'read.raw'
-    for kind in WIDTH:
+    for kind in kinds_of(tool):
         for text in texts_of(folder, kind, tool):
             status, said = READERS[reader](text, raw)
             # srec_cat warns of records that are out of order or have no data.
@@ -245,4 +296,4 @@ def count(folder):
 
 if __name__ == '__main__':
     name, folder, *more = sys.argv[1:]
-    {'make': make, 'write': write, 'load': load, 'read': read, 'count': count}[name](pathlib.Path(folder), *more)
+    {'make': make, 'write': write, 'presets': presets, 'load': load, 'read': read, 'same': same, 'count': count}[name](pathlib.Path(folder), *more)

@@ -1,54 +1,20 @@
 /*
- * load program|data FILE ..: loads each file as Intel HEX and prints a line for it: the number, the line that decided, and the 512 cells
- * in hexadecimal. Before each call cell n holds 5A5A0000H + n, in a data ROM 5A00H + n, so that an image that was not touched is seen.
- * Text and image come from malloc with exactly the length lent.
+ * load program|data|preset FILE ..: loads each file as Intel HEX and prints a line for it: the number, the line that decided, and the cells
+ * in hexadecimal. Before each call word n of a program holds 5A5A0000H + n, and a cell n 5A00H + n, so that an image that was not touched is
+ * seen. Text and image come from malloc with exactly the length lent.
  */
 #include "bemulatsho.h"
 
-#include <stdio.h>
-#include <stdlib.h>
-#include <string.h>
-
-static void fail(const char *what, const char *file)
-{
-    fprintf(stderr, "load: %s: %s\n", file, what);
-    exit(2);
-}
-
-struct text {
-    uint8_t *bytes;
-    size_t length;
-};
-
-static struct text read_text(const char *name)
-{
-    struct text text;
-    long length;
-    FILE *file = fopen(name, "rb");
-    if (file == NULL || fseek(file, 0, SEEK_END) != 0 || (length = ftell(file)) < 0 || fseek(file, 0, SEEK_SET) != 0) {
-        fail("cannot be read", name);
-    }
-    text.length = (size_t)length;
-    /* a pointer is never null, not even with length 0 */
-    text.bytes = (uint8_t *)malloc(text.length == 0 ? 1 : text.length);
-    if (text.bytes == NULL || fread(text.bytes, 1, text.length, file) != text.length) {
-        fail("cannot be read", name);
-    }
-    fclose(file);
-    return text;
-}
+#include "files.h"
 
 static void print_reply(struct bemulatsho_loading reply)
 {
     printf("%u %zu", (unsigned)reply.number, reply.line);
 }
 
-static void load_program(struct text text)
+static void load_program(struct file text)
 {
-    uint32_t *image = (uint32_t *)malloc(BEMULATSHO_WORDS * sizeof *image);
-    if (image == NULL) {
-        fail("malloc gave nothing", "program");
-    }
+    uint32_t *image = (uint32_t *)memory(BEMULATSHO_WORDS * sizeof *image);
     for (uint32_t n = 0; n < BEMULATSHO_WORDS; n++) {
         image[n] = 0x5A5A0000u + n;
     }
@@ -59,35 +25,43 @@ static void load_program(struct text text)
     free(image);
 }
 
-static void load_data(struct text text)
+typedef struct bemulatsho_loading load_cells(const uint8_t *text, size_t text_length, uint16_t *image, size_t image_length);
+
+static void load_into(load_cells *load, size_t cells, struct file text)
 {
-    uint16_t *image = (uint16_t *)malloc(BEMULATSHO_CELLS * sizeof *image);
-    if (image == NULL) {
-        fail("malloc gave nothing", "data");
-    }
-    for (uint32_t n = 0; n < BEMULATSHO_CELLS; n++) {
+    uint16_t *image = (uint16_t *)memory(cells * sizeof *image);
+    for (size_t n = 0; n < cells; n++) {
         image[n] = (uint16_t)(0x5A00u + n);
     }
-    print_reply(bemulatsho_load_data(text.bytes, text.length, image, BEMULATSHO_CELLS));
-    for (uint32_t n = 0; n < BEMULATSHO_CELLS; n++) {
+    print_reply(load(text.bytes, text.length, image, cells));
+    for (size_t n = 0; n < cells; n++) {
         printf(" %04X", (unsigned)image[n]);
     }
     free(image);
 }
 
+static void load_as(const char *kind, struct file text)
+{
+    if (strcmp(kind, "program") == 0) {
+        load_program(text);
+    } else if (strcmp(kind, "data") == 0) {
+        load_into(bemulatsho_load_data, BEMULATSHO_CELLS, text);
+    } else if (strcmp(kind, "preset") == 0) {
+        load_into(bemulatsho_load_preset, BEMULATSHO_RAM, text);
+    } else {
+        fail("is no program, data or preset", kind);
+    }
+}
+
 int main(int count, char **arguments)
 {
-    if (count < 2 || (strcmp(arguments[1], "program") != 0 && strcmp(arguments[1], "data") != 0)) {
-        fputs("usage: load program|data FILE ..\n", stderr);
+    if (count < 2) {
+        fputs("usage: load program|data|preset FILE ..\n", stderr);
         return 2;
     }
     for (int n = 2; n < count; n++) {
-        struct text text = read_text(arguments[n]);
-        if (strcmp(arguments[1], "program") == 0) {
-            load_program(text);
-        } else {
-            load_data(text);
-        }
+        struct file text = read_file(arguments[n]);
+        load_as(arguments[1], text);
         putchar('\n');
         free(text.bytes);
     }
