@@ -1,5 +1,6 @@
 //! What speed is measured on, and a yardstick for the machine.
 
+pub mod presets;
 pub mod programs;
 pub mod texts;
 pub mod tracks;

@@ -1,9 +1,9 @@
 //! Words a second of the proved core, through the C interface with 65535 words a call, and of the emulator, on the same programs in
 //! turn; the instructions that a word takes by callgrind; how many chips one core carries; what the processor could do meanwhile; how fast
-//! the desk mixes and checks tracks; and how fast texts are loaded. A measurement, and no test.
+//! the desk mixes and checks tracks; and how fast texts are loaded, and presets loaded and written. A measurement, and no test.
 
 use speed::programs::{self, Program};
-use speed::{texts, tracks, yardstick};
+use speed::{presets, texts, tracks, yardstick};
 use std::process::{exit, Command};
 use std::time::{Duration, Instant};
 
@@ -161,13 +161,15 @@ fn main() {
             table(&programs::all()[..programs::LOOPS]);
             printed(tracks::table());
             printed(texts::table());
+            printed(presets::table());
         }
         ["tracks"] => printed(tracks::table()),
         ["texts"] => printed(texts::table()),
+        ["presets"] => printed(presets::table()),
         ["words"] => table(&programs::all()[programs::LOOPS..]),
         ["count", place, calls] => count(place, calls),
         _ => {
-            eprintln!("usage: speed | speed words | speed tracks | speed texts | speed count PROGRAM CALLS");
+            eprintln!("usage: speed | speed words | speed tracks | speed texts | speed presets | speed count PROGRAM CALLS");
             exit(2);
         }
     }

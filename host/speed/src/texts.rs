@@ -34,7 +34,7 @@ fn measure(file: &Path) -> Result<(), String> {
 }
 
 /// Seconds of one call, or none where it does not answer as it should.
-fn seconds(mut call: impl FnMut() -> bool) -> Option<f64> {
+pub fn seconds(mut call: impl FnMut() -> bool) -> Option<f64> {
     let start = Instant::now();
     let mut calls = 0u32;
     while calls == 0 || start.elapsed() < SLICE {
