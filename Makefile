@@ -12,10 +12,12 @@ CARGO := $(FOR_X86_64) $(CARGO)
 BUILT = host/target/x86_64-unknown-linux-gnu/release
 endif
 
-# Longer comparisons: `make compare-long SEED=1 EVENTS=500000000`, `make compare-texts SEED=1 TEXTS=50000000`.
+# Longer comparisons: `make compare-long SEED=1 EVENTS=500000000`, `make compare-texts SEED=1 TEXTS=50000000`,
+# `make compare-presets SEED=1 PRESETS=50000000`.
 SEED = 1
 EVENTS = 200000000
 TEXTS = 20000000
+PRESETS = 20000000
 
 # A whole sitting: `make sitting SECONDS_A_TRACK=3600`.
 SECONDS_A_TRACK = 600
@@ -23,7 +25,7 @@ SECONDS_A_TRACK = 600
 # Where `make install` puts things; with DESTDIR, below that folder.
 PREFIX ?= /usr/local
 
-.PHONY: run cases test kit generated format compare compare-long compare-texts damaged-long lib desk install uninstall test-report sitting bench refusals clean
+.PHONY: run cases test kit generated format compare compare-long compare-texts compare-presets damaged-long lib desk install uninstall test-report sitting bench refusals clean
 
 # A small example on the desk: three tones mixed to a track, checked against exact arithmetic. The program is left in dist/desk.
 run: desk
@@ -56,7 +58,7 @@ format: lib
 	@tools/format
 
 # The scripts that judge and build, the library from C, C++ and Rust, the report in a browser, texts of Intel HEX against other tools, and the proved
-# core and readers against the independent ones.
+# core, readers and writer against the independent ones.
 compare: format desk
 	@tests/gate
 	@tests/refusals
@@ -76,6 +78,9 @@ compare-long: lib
 
 compare-texts: lib
 	@cd host && $(CARGO) run --release --package compare -- texts $(SEED) $(TEXTS)
+
+compare-presets: lib
+	@cd host && $(CARGO) run --release --package compare -- presets $(SEED) $(PRESETS)
 
 # The desk program.
 desk: lib
