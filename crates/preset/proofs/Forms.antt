@@ -1,4 +1,4 @@
--- The texts of the writer's form are those that are written. Assumes nothing.
+-- A text of the writer's form was written, and of which bytes. Assumes nothing.
 use mathlib.Core.Path.{_≡_, refl, sym, ap, ap₂, _∙_}
 use mathlib.Core.Bool.{Bool, true, false, cond, and-eq-true-iff}
 use mathlib.Core.List.{List, [], _∷_, _++_}
@@ -21,24 +21,6 @@ use Rattle.preset.specs.Written.{capital, spelled, content, recordLine, 
 use Rattle.preset.specs.Form.{DataLine, FormLines}
 use Rattle.preset.proofs.Spelled.{total-append}
 use Rattle.preset.proofs.Lines.{check}
-use Rattle.preset.proofs.Readable.{head-is, feed-alone, large}
-
--- what is written has the form
-pub lines-form : (records address : ℕ) (bs : List ℕ) → Bytes bs → length bs ≡ 16 * records → address + 16 * records ≤ 65536
-    → FormLines records address (recordLines records address bs)
-unfolding recordLines endLine
-lines-form zero address bs h e inside = refl
-lines-form (suc records) address bs h e inside =
-    let here = take 16 bs in
-    let long : length here ≡ 16 = omega (arith, length-take 16 bs) in
-    let are = taken Byte 16 bs h in (
-      record {
-        says = head-is address here (omega arith) (omega arith) are ∙ ap (λ (n : ℕ). record { number = 0; kind = 0; address = address; length = n }) long;
-        inCapitals = large address here (omega arith) (omega arith) are;
-        feedAlone = feed-alone address here (omega arith) (omega arith) are;
-      },
-      lines-form records (address + 16) (drop 16 bs) (dropped Byte 16 bs h) (omega (arith, length-drop 16 bs)) (omega arith),
-    )
 
 -- a digit that is no small letter is in capitals
 capital-if : (c : ℕ) (a b d e : Bool) → ltb c 48 ≡ a → ltb c 58 ≡ b → ltb c 65 ≡ d → ltb c 71 ≡ e → c < 97

@@ -4,6 +4,7 @@ pub mod Stores
 pub mod Lines
 pub mod Readable
 pub mod RoundTrip
+pub mod InForm
 pub mod Forms
 pub mod Promises
 pub mod Texts

@@ -16,7 +16,8 @@ use Rattle.preset.specs.Form.{WritersForm, FormLines}
 use Rattle.preset.specs.Promises.{Ram, Kept, AllReplaced, Length, OneWriting, InBuffer, ReadBack, WrittenBack, FormExactly}
 use Rattle.preset.proofs.Buffers.{length-preset, is-written}
 use Rattle.preset.proofs.RoundTrip.{lines-found, image-read-back}
-use Rattle.preset.proofs.Forms.{lines-form, form-made}
+use Rattle.preset.proofs.InForm.{lines-form}
+use Rattle.preset.proofs.Forms.{form-made}
 
 pub kept : Kept
 kept = untouched 2 128
