@@ -14,9 +14,9 @@ pub fn command(arguments: &[String]) -> Result<(), Fault> {
     print_lines(&table(&file::read(preset)?))
 }
 
-/// The columns over the cells, and before each row its bits.
+/// The bits of DP over the rows and columns that they choose, the columns over the cells, and before each row its bits.
 fn table(cells: &Ram) -> Vec<String> {
-    let rows = ram::rows().map(|from| format!("{}  {}", ram::row_bits(from), ram::row(from, cells, cells, None)));
-    let lines = [format!("row  {}", ram::header())].into_iter().chain(rows);
-    lines.map(|line| line.trim_end().to_string()).collect()
+    let rows = ram::rows().map(|from| format!("{}    {}", ram::row_bits(from), ram::row(from, cells, cells, None)));
+    let head = ["DP6-4       DP3-0".to_string(), format!("row    {}", ram::header())];
+    head.into_iter().chain(rows).map(|line| line.trim_end().to_string()).collect()
 }
