@@ -4,7 +4,7 @@ use mathlib.Core.List.{List, [], _∷_, _++_}
 use Prim.Native.Nat.{ℕ, zero, suc, _+_, _*_, _/_, _%_, _<_}
 use native.Mathlib.Omega.{arith}
 use native.Mathlib.Nat.{mul-suc}
-use lib.ListN.{length, take, drop, length-append, length-take, length-drop, take-append-drop}
+use lib.ListN.{length, getD, take, drop, length-append, length-take, length-drop, take-append-drop}
 use lib.Seq.{take-at, drop-at}
 use Rattle.numbers.specs.Every.{Every}
 use Rattle.image.specs.Hexadecimal.{byte, bytesOf}
@@ -17,6 +17,11 @@ Byte b = b < 256
 
 abbrev pub Bytes : List ℕ → Type 0
 Bytes = Every Byte
+
+pub member-below : (bs : List ℕ) (i : ℕ) → Bytes bs → getD bs i 0 < 256
+member-below [] i h = omega arith
+member-below (b ∷ bs) zero h = h .0
+member-below (b ∷ bs) (suc i) h = member-below bs i (h .1)
 
 -- what two hexadecimal characters spell is a byte
 byte-below : (high low : ℕ) → byte high low < 256

@@ -1,7 +1,7 @@
 -- The records of a text, one line after the other. Assumes nothing.
 use mathlib.Core.Path.{_≡_, refl, sym, ap, _∙_}
 use mathlib.Core.Bool.{Bool, true, false, cond, not}
-use mathlib.Core.List.{List, _∷_, map}
+use mathlib.Core.List.{List, [], _∷_, map}
 use Prim.Native.Nat.{ℕ, _+_, _*_, _<_, _≤_}
 use native.Mathlib.Omega.{arith}
 use lib.ListN.{length, take, drop}
@@ -12,7 +12,7 @@ use Rattle.image.specs.Lines.{lines, firstLine}
 use Rattle.image.specs.IntelHex.{recordHead, dataPart, intelHex}
 use Rattle.image.specs.declared.record.RecordHead.{RecordHead}
 use Rattle.image.specs.Record.{Record}
-use Rattle.image.specs.Image.{given, give, Walked, walked, at, ended, unended, some, walk}
+use Rattle.image.specs.Image.{given, give, missing, Walked, walked, at, ended, unended, some, walk}
 use Rattle.image.proofs.Lines.{lines-over, line-first, line-within, line-some}
 use Rattle.image.proofs.Records.{part-within}
 
@@ -54,6 +54,11 @@ module _ (line : ℕ) (r : Record) (rs : List Record) (g : List ℕ) where
       → walk line (r ∷ rs) g ≡ walked (at (line + 1) n) g′
   unfolding turn
   walk-outside b l n g′ p z = rw (turn-is line r rs g, eq-eqb (r .number) 0 b, l, p, ne-eqb n 0 z)
+
+-- an end record behind which nothing stands, when no address is missing
+pub walk-closed : (line : ℕ) (r : Record) (g : List ℕ) → r .number ≡ 0 → r .last ≡ true → missing g ≡ false → walk line (r ∷ []) g ≡ walked (at (line + 1) 0) g
+unfolding ended
+walk-closed line r g b l m = walk-last line r [] g b l ∙ rw m
 
 pub walk-over : (text : List ℕ) (from line : ℕ) (g : List ℕ) → length text ≤ from → walk line (records (drop from text)) g ≡ walked (unended line g) g
 unfolding walk

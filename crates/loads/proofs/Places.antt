@@ -15,7 +15,7 @@ use Rattle.image.specs.Lines.{lines}
 use Rattle.image.specs.Record.{Record}
 use Rattle.image.specs.IntelHex.{intelHex}
 use Rattle.image.specs.Image.{Given, given, give, Walked, at, walk, value, cells, Loaded, load}
-use Rattle.image.proofs.CellBytes.{Bytes}
+use Rattle.image.proofs.CellBytes.{Bytes, member-below}
 use Rattle.image.proofs.Giving.{give-free}
 use Rattle.image.proofs.Order.{was-free, free-inside}
 use Rattle.image.proofs.Walking.{walk-last}
@@ -74,11 +74,6 @@ put x [] a g g′ h u v = absurd (omega arith)
 put x (b ∷ bs) a g g′ h u v =
     put-if x b bs a g g′ h u (λ w. put x bs (a + 1) (set g a b) g′ (rest x b bs a g g′ h) w (omega arith)) (eqb a x) refl
 
-byte-at : (bs : List ℕ) (i : ℕ) → Bytes bs → getD bs i 0 < 256
-byte-at [] i s = omega arith
-byte-at (b ∷ bs) zero s = s .0
-byte-at (b ∷ bs) (suc i) s = byte-at bs i (s .1)
-
 -- what stands at a place when a text was taken: what was there, or what its records give for it
 left : List ℕ → List Record → ℕ → ℕ
 left g rs x = cond (eqb (getD g x 0) 256) (byteFor rs x) (getD g x 0)
@@ -120,7 +115,7 @@ module _ (r : Record) (rs : List Record) (g g′ : List ℕ) (s : Bytes (r .byte
   one-if : (b : Bool) → gives r x ≡ b → left g′ rs x ≡ left g (r ∷ rs) x
   one-if true e =
       let p = put x (r .bytes) (r .address) g g′ gave (inside e .0) (inside e .1) in
-      left-taken g′ rs x (λ z. omega (arith, z, p .is, byte-at (r .bytes) (x - r .address) s))
+      left-taken g′ rs x (λ z. omega (arith, z, p .is, member-below (r .bytes) (x - r .address) s))
       ∙ p .is ∙ sym (left-free g (r ∷ rs) x (p .was) ∙ given-first e)
   one-if false e =
       left-same g g′ rs x (elsewhere x (r .bytes) (r .address) g g′ gave (outside e)) ∙ sym (later-if (eqb (getD g x 0) 256) refl e)

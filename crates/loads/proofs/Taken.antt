@@ -13,10 +13,10 @@ use Rattle.image.specs.Lines.{lines}
 use Rattle.image.specs.Record.{Record}
 use Rattle.image.specs.IntelHex.{dataLength, recordType, recordHead, dataPart, intelHex}
 use Rattle.image.specs.declared.record.RecordHead.{RecordHead}
-use Rattle.image.specs.Image.{given, give, missing, Walked, at, ended, walk, Loaded}
+use Rattle.image.specs.Image.{given, give, Walked, at, walk, Loaded}
 use Rattle.image.proofs.CellBytes.{Bytes, bytes-below}
 use Rattle.image.proofs.Records.{formed-has, good, head-good, length-good, refused-length}
-use Rattle.image.proofs.Walking.{walk-last, walk-on}
+use Rattle.image.proofs.Walking.{walk-on, walk-closed}
 use Rattle.image.proofs.Taking.{never, first}
 use Rattle.image.proofs.Loads.{blank, walk-taken, load-taken}
 use Rattle.loads.specs.Given.{Closed, from, addresses, times}
@@ -55,15 +55,11 @@ taken-owed line (r ∷ q ∷ rs) g s h =
     let more = taken-owed (line + 1) (q ∷ rs) g′ (s .1) (sym (ap (λ (w : Walked). w .number) e) ∙ h) in
     ((n, l, more .0), λ x. omega (arith, times-first x r (q ∷ rs), more .1 x, give-counts (r .bytes) (r .address) g g′ (s .0 .0) gave x)))
 
-closes : (line : ℕ) (g : List ℕ) → missing g ≡ false → ended line false g .number ≡ 0
-unfolding ended
-closes line g m = rw m
-
 owed-taken : (line : ℕ) (rs : List Record) (g : List ℕ) → Every Sound rs → Closed rs → Owed rs g → walk line rs g .number ≡ 0
 owed-taken line [] g s c o = absurd c
 owed-taken line (r ∷ []) g s c o =
     let m = none-missing g (λ x. omega (arith, o x, times-last x r (s .0 .1 (c .1)))) in
-    ap (λ (w : Walked). w .number) (walk-last line r [] g (c .0) (c .1)) ∙ closes (line + 1) g m
+    ap (λ (w : Walked). w .number) (walk-closed line r g (c .0) (c .1) m)
 owed-taken line (r ∷ q ∷ rs) g s c o =
     let p = give (r .address) (r .bytes) g in
     let z = give-fits (r .bytes) (r .address) g (s .0 .0) (λ x. omega (arith, o x, times-first x r (q ∷ rs))) in

@@ -13,7 +13,7 @@ use Rattle.image.specs.Hexadecimal.{digit, byte, byteAt, bytesOf, allDigits, to
 use Rattle.image.specs.IntelHex.{ending, characters, recordHead}
 use Rattle.image.specs.declared.record.RecordHead.{RecordHead}
 use Rattle.image.proofs.Members.{taken, dropped, both}
-use Rattle.image.proofs.CellBytes.{Byte, Bytes, bytes-below}
+use Rattle.image.proofs.CellBytes.{Byte, Bytes, member-below, bytes-below}
 use Rattle.image.proofs.Characters.{bytes-step}
 use Rattle.image.proofs.Records.{good, head-good}
 use Rattle.image.proofs.Proper.{fine}
@@ -93,11 +93,6 @@ last-of n bs e =
     sym (take-append-drop n bs)
     ∙ ap (λ (t : List ℕ). take n bs ++ t) (drop-cons bs n 0 (omega arith) ∙ ap (λ (t : List ℕ). getD bs n 0 ∷ t) (drop-of-length-le bs {i = suc n} (omega arith)))
 
-byte-below : (bs : List ℕ) (i : ℕ) → Bytes bs → getD bs i 0 < 256
-byte-below [] i h = omega arith
-byte-below (b ∷ bs) zero h = h .0
-byte-below (b ∷ bs) (suc i) h = byte-below bs i (h .1)
-
 byte-at-below : (l : List ℕ) (i : ℕ) → byteAt l i < 256
 unfolding byteAt byte
 byte-at-below l i = omega arith
@@ -174,7 +169,7 @@ module _ (address : ℕ) (line : List ℕ) (f : DataLine address line) where
   end-is : end ≡ check 0 address made
   end-is =
       let sum : total (bytesOf cs) % 256 ≡ 0 = eqb-true _ 0 (good line is-good .1) in
-      omega (arith, sum, ap total bytes-are, total-append (content 0 address made) (end ∷ []), total-one end, byte-below rest 16 (bytes-below (drop 8 cs)))
+      omega (arith, sum, ap total bytes-are, total-append (content 0 address made) (end ∷ []), total-one end, member-below rest 16 (bytes-below (drop 8 cs)))
 
   line-is : line ≡ recordLine 0 address made
   unfolding recordLine

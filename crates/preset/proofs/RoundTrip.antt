@@ -14,11 +14,11 @@ use Rattle.image.specs.Quoted.{quoted}
 use Rattle.image.specs.Lines.{lines}
 use Rattle.image.specs.Record.{Record}
 use Rattle.image.specs.IntelHex.{ending, formed, said, recordHead, dataPart, intelHex}
-use Rattle.image.specs.Image.{given, give, missing, walked, at, ended, walk}
+use Rattle.image.specs.Image.{given, give, missing, walked, at, walk}
 use Rattle.image.specs.declared.record.RecordHead.{RecordHead}
 use Rattle.image.proofs.Giving.{give-free}
 use Rattle.image.proofs.Proper.{Good, lines-joined}
-use Rattle.image.proofs.Walking.{walk-on, walk-last}
+use Rattle.image.proofs.Walking.{walk-on, walk-closed}
 use Rattle.image.proofs.Loads.{blank, load-taken}
 use Rattle.image.proofs.Members.{taken, dropped, both}
 use Rattle.image.proofs.CellBytes.{Byte, Bytes}
@@ -61,18 +61,14 @@ unfolding missing
 none-missing [] h = refl
 none-missing (b ∷ bs) h = rw (ne-eqb b 256 (λ e. omega (arith, h .0, e))) (none-missing bs (h .1))
 
-closes : (line : ℕ) (g : List ℕ) → Bytes g → walked (ended line false g) g ≡ walked (at line 0) g
-unfolding ended
-closes line g h = rw (none-missing g h)
-
 -- the records put their bytes one after the other, and the line of the end record decides
 walk-records : (records address line : ℕ) (p bs : List ℕ) → (0 < length bs → length p ≡ address) → length bs ≤ 16 * records → address + 16 * records ≤ 65536 → Bytes p → Bytes bs
     → walk line (map intelHex (recordLines records address bs)) (p ++ replicate (length bs) 256) ≡ walked (at (line + records + 1) 0) (p ++ bs)
 unfolding recordLines
 walk-records zero address line p [] e l inside u v =
     ap (λ (r : Record). walk line (r ∷ []) (p ++ [])) end-is
-    ∙ walk-last line (record { number = 0; last = true; address = 0; bytes = [] }) [] (p ++ []) refl refl
-    ∙ closes (line + 1) (p ++ []) (both Byte p [] u tt)
+    ∙ walk-closed line (record { number = 0; last = true; address = 0; bytes = [] }) (p ++ []) refl refl
+    (none-missing (p ++ []) (both Byte p [] u tt))
     ∙ ap (λ (n : ℕ). walked (at (n + 1) 0) (p ++ [])) (sym (add-zero line))
 walk-records zero address line p (b ∷ bs) e l inside u v = absurd (omega arith)
 walk-records (suc records) address line p bs e l inside u v =
