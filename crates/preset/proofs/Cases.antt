@@ -27,13 +27,8 @@ records = (refl, refl, refl, refl)
 abbrev yesterday : List ℕ
 yesterday = replicate 128 7
 
-whole : loadPreset text yesterday ≡ loaded (at 17 0) ram
+-- the whole preset is taken; half of it is 15, told at its end record, and the RAM keeps every cell
+loads : (loadPreset text yesterday ≡ loaded (at 17 0) ram) × (loadPreset (take 352 text ++ quoted ":00000001FF\n") yesterday ≡ loaded (at 9 15) yesterday)
 unfolding ram text quoted textOf joined recordLines recordLine endLine spelled capital total cellBytes lowFirst load walk lines intelHex recordHead said give
     missing ended value cells formed ending allDigits bytesOf byteAt byte digit dataPart
-whole = refl
-
--- half a preset is 15, told at its end record, and the RAM keeps every cell
-half : loadPreset (take 352 text ++ quoted ":00000001FF\n") yesterday ≡ loaded (at 9 15) yesterday
-unfolding ram text quoted textOf joined recordLines recordLine endLine spelled capital total cellBytes lowFirst load walk lines intelHex recordHead said give
-    missing ended value cells formed ending allDigits bytesOf byteAt byte digit dataPart
-half = refl
+loads = (refl, refl)

@@ -1,10 +1,11 @@
 -- What is promised of presets. Assumes nothing.
 use mathlib.Core.Path.{_≡_, sym, ap, subst, _∙_}
 use mathlib.Core.List.{List}
-use Prim.Native.Nat.{ℕ}
+use Prim.Native.Nat.{ℕ, zero, suc, _<_}
 use native.Mathlib.Omega.{arith}
-use lib.ListN.{length, take, drop}
+use lib.ListN.{length, take, drop, replicate, length-replicate}
 use lib.Seq.{take-at, drop-at}
+use Rattle.numbers.specs.Every.{Every}
 use Rattle.image.specs.Lines.{lines, joined}
 use Rattle.image.specs.Image.{at, cells, cellBytes, Loaded, loaded}
 use Rattle.image.proofs.Fills.{cells-length}
@@ -13,7 +14,7 @@ use Rattle.image.proofs.CellBytes.{limit, length-bytes, cells-bytes, cells-back
 use Rattle.preset.specs.Written.{recordLines, recordsFor, textOf}
 use Rattle.preset.specs.Preset.{loadPreset, presetText, Written, written}
 use Rattle.preset.specs.Form.{WritersForm, FormLines}
-use Rattle.preset.specs.Promises.{Ram, Kept, AllReplaced, Length, OneWriting, InBuffer, ReadBack, WrittenBack, FormExactly}
+use Rattle.preset.specs.Promises.{Ram, Kept, AllReplaced, Length, OneWriting, InBuffer, ReadBack, WrittenBack, FormExactly, SomeForm}
 use Rattle.preset.proofs.Buffers.{length-preset, is-written}
 use Rattle.preset.proofs.RoundTrip.{lines-found, image-read-back}
 use Rattle.preset.proofs.InForm.{lines-form}
@@ -78,6 +79,14 @@ was-written text form =
 
 pub form-exactly : FormExactly
 form-exactly = (has-form, was-written)
+
+-- a RAM of zeros
+zeros : (n : ℕ) → Every (λ v. v < 65536) (replicate n 0)
+zeros zero = tt
+zeros (suc n) = (omega arith, zeros n)
+
+pub some-form : SomeForm
+some-form = (presetText (replicate 128 0), has-form (replicate 128 0) (length-replicate {A = ℕ} 128 0, zeros 128))
 
 pub written-back : WrittenBack
 written-back text before form e =

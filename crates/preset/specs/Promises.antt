@@ -62,3 +62,7 @@ WrittenBack =
 abbrev pub FormExactly : Type 0
 FormExactly =
     ((ram : List ℕ) → Ram ram → WritersForm (presetText ram)) × ((text : List ℕ) → WritersForm text → (ram : List ℕ) × Ram ram × (text ≡ presetText ram))
+
+-- and there is such a text, so that what is said of them is not said of nothing
+abbrev pub SomeForm : Type 0
+SomeForm = (text : List ℕ) × WritersForm text
