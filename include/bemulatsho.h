@@ -73,9 +73,6 @@ uint32_t bemulatsho_version(void);
 #define BEMULATSHO_RAM 128u             /* RAM cells, of 16 bits each */
 #define BEMULATSHO_STACK 4u             /* stack cells */
 
-/* The characters of every preset that is written: 16 lines of 44, and an end of 12. */
-#define BEMULATSHO_PRESET_TEXT 716u
-
 /*
  * A program is an array of uint32_t, word n at place n, the word in the low 23 bits. A
  * data ROM is an array of uint16_t, the cell in the low 13 bits. A larger number may
@@ -485,6 +482,9 @@ struct bemulatsho_loading bemulatsho_load_data(
 struct bemulatsho_loading bemulatsho_load_preset(
     const uint8_t *text, size_t text_length,
     uint16_t *ram, size_t ram_length); /* BEMULATSHO_RAM */
+
+/* The characters of every preset that is written: 16 lines of 44, and an end of 12. */
+#define BEMULATSHO_PRESET_TEXT 716u
 
 /* How a text was written. */
 struct bemulatsho_writing {
