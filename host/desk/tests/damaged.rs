@@ -2,7 +2,7 @@
 //! says in a long run (`make damaged-long`); the sequence is the same every time.
 
 use desk::fault::{Fault, Spot};
-use desk::images::{load, preset, Image};
+use desk::images::{self, preset, Image};
 use desk::records::compact::{Reader, Writer};
 use desk::records::{self, Form};
 use desk::scripts::reader::read_text;
@@ -120,20 +120,11 @@ const IMAGE: &[u8] = include_bytes!("../../../examples/intel_hex/mixing.hex");
 
 #[test]
 fn damaged_images_are_loaded_or_refused_with_what_is_wrong() {
-    let mut random = Random::new(0x77e1);
-    let (mut loaded, mut refused) = (0, [0; 5]);
-    for _ in 0..how_many() {
-        let text = damaged_image(&mut random, IMAGE);
-        match load(Image::Program, Path::new("damaged"), &text) {
-            Ok(words) => {
-                assert!(words == plainly_read::<2048, 4>(&text), "{}", text.escape_ascii());
-                loaded += 1;
-            }
-            Err(fault) => refused[explained(&text, &fault) - 12] += 1,
-        }
-        let _ = load(Image::Data, Path::new("damaged"), &text).map_err(|fault| explained(&text, &fault));
-    }
-    assert!(loaded > 0 && refused.iter().all(|count| *count > 0), "{loaded} were loaded and {refused:?} refused");
+    let load = |text: &[u8]| {
+        let _ = images::load(Image::Data, Path::new("damaged"), text).map_err(|fault| explained(text, &fault));
+        images::load(Image::Program, Path::new("damaged"), text)
+    };
+    loaded_or_refused(0x77e1, IMAGE, load, |text, words| assert!(words == plainly_read::<2048, 4>(text), "{}", text.escape_ascii()));
 }
 
 /// The channel map of a day.
@@ -141,16 +132,24 @@ const PRESET: &[u8] = include_bytes!("../../../examples/presets/monday.hex");
 
 #[test]
 fn damaged_presets_are_loaded_or_refused_and_half_a_one_never_is_loaded() {
-    let mut random = Random::new(0x77e2);
+    let load = |text: &[u8]| preset::load(Path::new("damaged"), text);
+    loaded_or_refused(0x77e2, PRESET, load, |text, ram| {
+        let cells = ram.map(u32::from);
+        assert!(cells[..] == plainly_read::<256, 2>(text) && data_bytes(text) == 256, "{}", text.escape_ascii());
+        assert_eq!(images::load(Image::Preset, Path::new("again"), text), Ok(cells.to_vec()));
+        written_again_as_a_preset(&ram);
+    });
+}
+
+/// Damages an image again and again: what is loaded is judged, what is refused is explained, and each refusal is met.
+fn loaded_or_refused<T>(seed: u64, whole: &[u8], load: impl Fn(&[u8]) -> Result<T, Fault>, judge: impl Fn(&[u8], T)) {
+    let mut random = Random::new(seed);
     let (mut loaded, mut refused) = (0, [0; 5]);
     for _ in 0..how_many() {
-        let text = damaged_image(&mut random, PRESET);
-        match preset::load(Path::new("damaged"), &text) {
-            Ok(cells) => {
-                let cells = cells.map(u32::from);
-                assert!(cells[..] == plainly_read::<256, 2>(&text) && data_bytes(&text) == 256, "{}", text.escape_ascii());
-                assert_eq!(load(Image::Preset, Path::new("again"), &text), Ok(cells.to_vec()));
-                written_again_as_a_preset(&cells.map(|cell| cell as u16));
+        let text = damaged_image(&mut random, whole);
+        match load(&text) {
+            Ok(image) => {
+                judge(&text, image);
                 loaded += 1;
             }
             Err(fault) => refused[explained(&text, &fault) - 12] += 1,
