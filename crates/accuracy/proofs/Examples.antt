@@ -15,6 +15,7 @@ use Rattle.multiplier.specs.Product.{product, mOf}
 use Rattle.device.specs.Registers.{freshRegisters, registersFit}
 use Rattle.device.specs.Pointers.{ramPointerMoved}
 use Rattle.word.specs.Word.{wordOf, takenApart}
+use Rattle.flow.specs.Stack.{pushed}
 use Rattle.stages.specs.Accumulators.{operandOf, accumulated}
 use Rattle.stages.specs.Bus.{readFrom}
 use Rattle.stages.specs.Destinations.{loaded, ramLoaded}
@@ -24,10 +25,11 @@ use Rattle.words.specs.Operation.{opWord}
 use Rattle.words.specs.Load.{ldiWord}
 use Rattle.words.specs.Word.{fetchedDone, wordDone}
 use Rattle.machine.specs.Run.{ran}
-use Rattle.machine.specs.Events.{kindDone, eventDone}
+use Rattle.machine.specs.Events.{interruptEnding, kindDone, eventDone}
 use Rattle.events.specs.Events.{reset}
 use Rattle.accuracy.specs.Exact.{in32768ths, products, heldSum}
 use Rattle.accuracy.specs.Deeds.{after, wordsOf, callDeeds, deeds}
+use Rattle.accuracy.specs.Listed.{wordsDone, wordsIn, interruptsIn}
 use Rattle.accuracy.specs.Adding.{added}
 use Rattle.accuracy.specs.Examples.{Examples}
 
@@ -48,7 +50,7 @@ pub examples : Examples
 unfolding
     deeds callDeeds wordsOf added after eventDone kindDone ran reset wordDone fetchedDone takenApart wordOf opWord opRefusal ldiWord ldiRefusal readFrom accumulated
     operandOf operated plus sumFlags loaded ramLoaded pointed ramPointerMoved freshRegisters registersFit mOf product signed floorDiv floorMod leaves held heldSum
-    in32768ths products answer
+    in32768ths products answer wordsDone wordsIn interruptsIn interruptEnding pushed
 examples = (
   -- Tight
   (refl, (tt, (tt, (tt, tt))), omega arith, (adds, (adds, (adds, tt))), (positive 1, (positive 1, (positive 1, tt))), refl, refl),
@@ -66,4 +68,8 @@ examples = (
   (refl, (tt, tt), omega arith, tt, (λ h. h .never-below .le)),
   -- Unclear
   (tt, omega arith, tt, tt, (λ h. h .never-below .le)),
+  -- Interrupted
+  (refl, refl, refl, refl),
+  -- InterruptRefused
+  (refl, refl, refl, refl),
 )

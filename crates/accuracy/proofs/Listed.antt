@@ -1,8 +1,8 @@
 -- The list of deeds is built of the machine's own steps, test for test as a run is, so it leads where the run leads and counts what it counts.
 -- Assumes nothing.
-use Prim.Native.Nat.{ℕ, zero, suc, _+_}
+use Prim.Native.Nat.{ℕ, zero, suc, _+_, _*_}
 use native.Mathlib.Omega.{arith}
-use mathlib.Core.Path.{_≡_, refl, sym, ap, _∙_}
+use mathlib.Core.Path.{_≡_, refl, ap, _∙_}
 use mathlib.Core.Bool.{Bool, true, false, cond, _&&_}
 use mathlib.Core.List.{List, [], _∷_, _++_}
 use borrow.Author.Tests.{eqb-true, eqb-false, ne-eqb}
@@ -20,9 +20,10 @@ use Rattle.machine.specs.Counting.{Finished, none, next}
 use Rattle.machine.specs.Events.{lentFit, kindDone, eventDone}
 use Rattle.events.specs.Events.{allowed}
 use Rattle.machine.proofs.Runs.{ran-none, ran-on, ran-refused}
-use Rattle.machine.proofs.Frames.{counts-none}
+use Rattle.machine.specs.WordsDone.{interruptAccepted}
+use Rattle.machine.proofs.WordsDone.{counts-interrupts}
 use Rattle.accuracy.specs.Deeds.{Call, ended, Deed, word, event, fetched, inFront, wordsOf, callDeeds, deeds}
-use Rattle.accuracy.specs.Listed.{wordDeeds, Listed, wordsDone, wordsIn, AsManyAsCounted}
+use Rattle.accuracy.specs.Listed.{wordDeeds, Listed, wordsDone, wordsIn, interruptsIn, AsManyAsCounted}
 
 -- ---- a run
 
@@ -85,15 +86,23 @@ pub other-deeds : (r : Registers) (c : Call) (kind : ℕ) → c .kind ≡ suc ki
 unfolding callDeeds
 other-deeds r c kind e = rw (e, ne-eqb (suc kind) 0 (λ z. absurd (omega arith)))
 
-call-counted : (r : Registers) (c : Call) → wordsIn (callDeeds r c) ≡ ended r c .words
+twice : (t : Bool) → cond {A = ℕ} t 2 0 ≡ 2 * cond {A = ℕ} t 1 0
+twice true = omega arith
+twice false = omega arith
+
+-- a run counts its words, an accepted interrupt 2, and any other event none
+call-counted : (r : Registers) (c : Call) → ended r c .words ≡ wordsIn (callDeeds r c) + 2 * cond (interruptAccepted (c .kind) r (ended r c)) 1 0
 unfolding wordsIn
 call-counted r c = go (c .kind) refl
   where
-    go : (kind : ℕ) → c .kind ≡ kind → wordsIn (callDeeds r c) ≡ ended r c .words
-    go zero e = omega (arith, call-listed r c e .counted)
+    go : (kind : ℕ) → c .kind ≡ kind → ended r c .words ≡ wordsIn (callDeeds r c) + 2 * cond (interruptAccepted (c .kind) r (ended r c)) 1 0
+    go zero e =
+        let none : cond {A = ℕ} (interruptAccepted (c .kind) r (ended r c)) 1 0 ≡ 0 = ap (λ kind. cond {A = ℕ} (interruptAccepted kind r (ended r c)) 1 0) e in
+        omega (arith, call-listed r c e .counted, none)
     go (suc kind) e =
-        ap wordsIn (other-deeds r c kind e) ∙ of-cond (λ ds. wordsIn ds ≡ 0) (eqb (ended r c .number) 0) refl refl
-        ∙ sym (ap (λ k. eventDone r (c .program) (c .rom) (c .ram) k (c .value) .words) e ∙ counts-none r (c .program) (c .rom) (c .ram) kind (c .value))
+        let none : wordsIn (callDeeds r c) ≡ 0 = ap wordsIn (other-deeds r c kind e) ∙ of-cond (λ ds. wordsIn ds ≡ 0) (eqb (ended r c .number) 0) refl refl in
+        let counted : ended r c .words ≡ cond {A = ℕ} (interruptAccepted (c .kind) r (ended r c)) 2 0 = rw e (counts-interrupts r (c .program) (c .rom) (c .ram) kind (c .value)) in
+        omega (arith, none, counted, twice (interruptAccepted (c .kind) r (ended r c)))
 
 -- ---- all calls
 
@@ -104,6 +113,7 @@ in-both (word w r ∷ ds) es = omega (arith, in-both ds es)
 in-both (event kind ∷ ds) es = in-both ds es
 
 pub as-many-as-counted : AsManyAsCounted
-unfolding deeds wordsDone wordsIn
+unfolding deeds wordsDone wordsIn interruptsIn
 as-many-as-counted r [] = refl
-as-many-as-counted r (c ∷ calls) = rw (in-both (callDeeds r c) (deeds (ended r c .registers) calls), call-counted r c, as-many-as-counted (ended r c .registers) calls)
+as-many-as-counted r (c ∷ calls) =
+    omega (arith, in-both (callDeeds r c) (deeds (ended r c .registers) calls), call-counted r c, as-many-as-counted (ended r c .registers) calls)

@@ -1,5 +1,5 @@
 -- Runs of the machine that meet the premises of demand 3, and runs that show why each premise stands: without it the rest can be true and
--- the promise false.
+-- the promise false. And calls that count words in every way.
 use Prim.Native.Nat.{ℕ, _+_, _-_, _*_}
 use mathlib.Core.Path.{_≡_}
 use mathlib.Core.Bool.{true, false}
@@ -9,12 +9,13 @@ use lib.ListN.{length, replicate}
 use Rattle.numbers.specs.Signed.{signed}
 use Rattle.device.specs.Device.{upd77p20}
 use Rattle.device.specs.Registers.{freshRegisters}
-use Rattle.device.specs.Set.{set-a, set-k, set-l, set-flags-a, set-flags-b}
+use Rattle.device.specs.Set.{set-depth, set-a, set-k, set-l, set-sr, set-flags-a, set-flags-b}
 use Rattle.device.specs.declared.registers.Registers.{Registers}
 use Rattle.alu.specs.Answer.{answer}
 use Rattle.stages.specs.Accumulators.{accumulatorA}
 use Rattle.accuracy.specs.Exact.{in32768ths, products, heldSum}
-use Rattle.accuracy.specs.Deeds.{Call, after, deeds}
+use Rattle.accuracy.specs.Deeds.{Call, ended, after, deeds}
+use Rattle.accuracy.specs.Listed.{wordsDone, wordsIn, interruptsIn}
 use Rattle.accuracy.specs.Adding.{added}
 use Rattle.accuracy.specs.Demand3.{Clear, Unreset, AtMostThree, Alone, Apart, Near}
 
@@ -126,5 +127,21 @@ Unclear =
     let r = set-flags-a (from 0 0 0) (record { s1 = true; s0 = false; c = false; z = false; ov1 = true; ov0 = false }) in
     Unreset r [] × AtMostThree r [] × Alone r [] × Apart r [] × (Near r [] → ⊥)
 
+-- ---- the words done, and the words of the list
+
+-- a word, an accepted interrupt, an ignored one (EI is 0 since) and two words: five are done, three of them are in the list
+abbrev pub Interrupted : Type 0
+Interrupted =
+    let r = set-sr freshRegisters 0x80 in
+    let calls = call [] 0 1 ∷ call [] 6 0 ∷ call [] 6 0 ∷ call [] 0 2 ∷ [] in
+    (wordsDone r calls ≡ 5) × (wordsIn (deeds r calls) ≡ 3) × (interruptsIn r calls ≡ 1) × (after r calls .pc .0 ≡ 0x102)
+
+-- on a full stack it is refused, and counts nothing
+abbrev pub InterruptRefused : Type 0
+InterruptRefused =
+    let r = set-depth (set-sr freshRegisters 0x80) 4 in
+    let calls = call [] 6 0 ∷ [] in
+    (wordsDone r calls ≡ 0) × (wordsIn (deeds r calls) ≡ 0) × (interruptsIn r calls ≡ 0) × (ended r (call [] 6 0) .number ≡ 9)
+
 abbrev pub Examples : Type 0
-Examples = Tight × Sharp × FourAdds × Squared × ResetBetween × Loaded × WithCarry × Unclear
+Examples = Tight × Sharp × FourAdds × Squared × ResetBetween × Loaded × WithCarry × Unclear × Interrupted × InterruptRefused

@@ -1,9 +1,11 @@
 -- That the list of deeds is not invented: its words are the machine's own steps, and are as many as the replies count.
-use Prim.Native.Nat.{ℕ, suc, _+_}
+use Prim.Native.Nat.{ℕ, suc, _+_, _*_}
 use mathlib.Core.Path.{_≡_}
+use mathlib.Core.Bool.{cond}
 use mathlib.Core.List.{List, [], _∷_}
 use Rattle.device.specs.declared.registers.Registers.{Registers}
 use Rattle.machine.specs.Counting.{Finished}
+use Rattle.machine.specs.WordsDone.{interruptAccepted}
 use Rattle.accuracy.specs.Deeds.{Call, ended, Deed, word, event, fetched, callDeeds, deeds}
 
 -- the words at PC of the registers that each of them finds
@@ -30,5 +32,11 @@ wordsIn [] = 0
 wordsIn (word w r ∷ ds) = suc (wordsIn ds)
 wordsIn (event kind ∷ ds) = wordsIn ds
 
+-- the accepted interrupts among the calls
+unfoldable pub interruptsIn : Registers → List Call → ℕ
+interruptsIn r [] = 0
+interruptsIn r (c ∷ calls) = cond (interruptAccepted (c .kind) r (ended r c)) 1 0 + interruptsIn (ended r c .registers) calls
+
+-- 02, E3: the words of the list, and 2 for each accepted interrupt
 abbrev pub AsManyAsCounted : Type 0
-AsManyAsCounted = (r : Registers) (calls : List Call) → wordsIn (deeds r calls) ≡ wordsDone r calls
+AsManyAsCounted = (r : Registers) (calls : List Call) → wordsDone r calls ≡ wordsIn (deeds r calls) + 2 * interruptsIn r calls

@@ -11,7 +11,7 @@ use Rattle.device.specs.Registers.{registersFit}
 use Rattle.device.specs.declared.registers.Registers.{Registers}
 use Rattle.status.specs.Status.{ei}
 use Rattle.words.specs.Refusals.{stackFull}
-use Rattle.machine.specs.Replies.{Ending, refusedCall, finishedCall}
+use Rattle.machine.specs.Replies.{Ending, refusedCall, finishedCall, acceptedCall}
 use Rattle.events.specs.Host.{byteRead, hostRead, hostWritten}
 use Rattle.machine.specs.Events.{lentFit, serialOutEnding, interruptEnding, kindDone, eventDone}
 use Rattle.events.specs.Events.{allowed, serialIn, serialOut, interrupted, reset}
@@ -36,7 +36,7 @@ pub record Endings (P : Ending → Type 0) (r : Registers) (ram : List ℕ) (val
   pub status : P (finishedCall (bits (r .sr) 15 8) r ram)
   pub word-in : P (finishedCall 0 (serialIn r value) ram)
   pub word-out : P (finishedCall (r .so) (serialOut r) ram)
-  pub taken : P (finishedCall 0 (interrupted r) ram)
+  pub taken : P (acceptedCall (interrupted r) ram)
   pub ignored : P (finishedCall 0 r ram)
 
 pub by-kinds : (P : Ending → Type 0) (r : Registers) (program rom ram : List ℕ) (kind value : ℕ) → Endings P r ram value → (suc kind ≡ 7 → P (finishedCall 0 (reset r) ram)) → P (eventDone r program rom ram (suc kind) value)

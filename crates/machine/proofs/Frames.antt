@@ -13,7 +13,7 @@ use Rattle.machine.specs.Replies.{finishedCall}
 use Rattle.events.specs.Host.{statusAccessed, byteRead, hostRead, hostWritten}
 use Rattle.machine.specs.Events.{kindDone, eventDone}
 use Rattle.events.specs.Events.{reset}
-use Rattle.machine.specs.Promises.{Untouched, EventRefused, CountsNone, KeepsRam}
+use Rattle.machine.specs.Promises.{Untouched, EventRefused, KeepsRam}
 use Rattle.machine.specs.HostPort.{HostOnly, ReadsOnly, WritesOnly, SeesDrAndSr, SeesSr}
 use Rattle.machine.specs.Resetting.{Reset, EventResets}
 
@@ -24,7 +24,7 @@ event-refused r program rom ram kind value =
     by-kinds (Untouched r ram) r program rom ram kind value
     (record { refused = λ number h. refl; read = done; written = done; status = done; word-in = done; word-out = done; taken = done; ignored = done }) (λ e. done)
   where
-    done : {v : ℕ} {q : Registers} → Untouched r ram (finishedCall v q ram)
+    done : {w v : ℕ} {q : Registers} → Untouched r ram (record { number = 0; words = w; value = v; registers = q; ram = ram })
     done h = absurd (h refl)
 
 -- ---- the host's port
@@ -69,15 +69,10 @@ pub writes-only : WritesOnly
 unfolding kindDone
 writes-only r program rom ram value = by-tests (λ e. HostOnly r (e .registers)) r program rom ram 2 value (λ n. nothing r) (λ ok. write-only r value)
 
--- no event but a run touches the RAM or counts words
+-- no event but a run touches the RAM
 pub keeps-ram : KeepsRam
 keeps-ram r program rom ram kind value =
     by-kinds (λ e. e .ram ≡ ram) r program rom ram kind value
-    (record { refused = λ number. refl; read = refl; written = refl; status = refl; word-in = refl; word-out = refl; taken = refl; ignored = refl }) (λ e. refl)
-
-pub counts-none : CountsNone
-counts-none r program rom ram kind value =
-    by-kinds (λ e. e .words ≡ 0) r program rom ram kind value
     (record { refused = λ number. refl; read = refl; written = refl; status = refl; word-in = refl; word-out = refl; taken = refl; ignored = refl }) (λ e. refl)
 
 -- an answered read is a read

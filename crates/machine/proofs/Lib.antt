@@ -5,3 +5,4 @@ pub mod Counting
 pub mod Fitting
 pub mod Endings
 pub mod Frames
+pub mod WordsDone

@@ -8,7 +8,7 @@ use Rattle.device.specs.Device.{upd77p20, lengthsFit}
 use Rattle.device.specs.Registers.{registersFit}
 use Rattle.device.specs.declared.registers.Registers.{Registers}
 use Rattle.status.specs.Status.{ei}
-use Rattle.machine.specs.Replies.{Ending, refusedCall, finishedCall}
+use Rattle.machine.specs.Replies.{Ending, refusedCall, finishedCall, acceptedCall}
 use Rattle.words.specs.Refusals.{stackFull}
 use Rattle.machine.specs.Run.{ran}
 use Rattle.events.specs.Host.{byteRead, hostRead, hostWritten}
@@ -22,9 +22,9 @@ lentFit program rom ram = lengthsFit upd77p20 (length program) (length rom) (len
 unfoldable pub serialOutEnding : Registers → List ℕ → Ending
 serialOutEnding r ram = cond (r .sorq) (finishedCall (r .so) (serialOut r) ram) (refusedCall 10 r ram)
 
--- event 6, or refusal 9: "interrupt taken, at depth 4"; "It counts no words"
+-- event 6, or refusal 9: "interrupt taken, at depth 4"; 02, E3: "an ignored one stays 0"
 unfoldable pub interruptEnding : Registers → List ℕ → Ending
-interruptEnding r ram = cond (ei (r .sr)) (cond (stackFull r) (refusedCall 9 r ram) (finishedCall 0 (interrupted r) ram)) (finishedCall 0 r ram)
+interruptEnding r ram = cond (ei (r .sr)) (cond (stackFull r) (refusedCall 9 r ram) (acceptedCall (interrupted r) ram)) (finishedCall 0 r ram)
 
 -- events 0 to 6
 abbrev pub kinds : ℕ → Registers → List ℕ → List ℕ → List ℕ → List Ending

@@ -33,10 +33,7 @@ CallRefused =
     × (lentFit program rom ram ≡ true → registersFit upd77p20 r ≡ false → eventDone r program rom ram kind value ≡ refusedCall 2 r ram)
     × (lentFit program rom ram ≡ true → registersFit upd77p20 r ≡ true → allowed kind value ≡ false → eventDone r program rom ram kind value ≡ refusedCall 3 r ram)
 
--- "the words done (0 for every kind but 0)", and no other kind touches the RAM
-abbrev pub CountsNone : Type 0
-CountsNone = (r : Registers) (program rom ram : List ℕ) (kind value : ℕ) → eventDone r program rom ram (suc kind) value .words ≡ 0
-
+-- no kind but a run touches the RAM
 abbrev pub KeepsRam : Type 0
 KeepsRam = (r : Registers) (program rom ram : List ℕ) (kind value : ℕ) → eventDone r program rom ram (suc kind) value .ram ≡ ram
 

@@ -1,4 +1,5 @@
--- What a call leaves behind: 01, "A reply is a number, the words done (0 for every kind but 0), and a value (kinds 1, 3, 5; else 0)".
+-- What a call leaves behind: 01, "A reply is a number, the words done (0 for every kind but 0), and a value (kinds 1, 3, 5; else 0)", where 02's E3
+-- gives an accepted interrupt words done too.
 use Prim.Native.Nat.{ℕ}
 use mathlib.Core.List.{List}
 use Rattle.device.specs.declared.registers.Registers.{Registers}
@@ -16,9 +17,13 @@ pub record Ending : Type 0 where
 abbrev pub refusedCall : ℕ → Registers → List ℕ → Ending
 refusedCall number r ram = record { number = number; words = 0; value = 0; registers = r; ram = ram }
 
--- an event other than a run, with its value
+-- an event other than a run and an accepted interrupt, with its value
 abbrev pub finishedCall : ℕ → Registers → List ℕ → Ending
 finishedCall value q ram = record { number = 0; words = 0; value = value; registers = q; ram = ram }
+
+-- 02, E3: "An accepted interrupt now makes the reply's words done 2", for the NOP and the jump to 100H that 001, 3.25, puts in
+abbrev pub acceptedCall : Registers → List ℕ → Ending
+acceptedCall q ram = record { number = 0; words = 2; value = 0; registers = q; ram = ram }
 
 -- what the code hands back, with the RAM as it is left
 abbrev pub ending : AfterEvent → List ℕ → Ending

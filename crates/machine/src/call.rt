@@ -2,7 +2,7 @@
 ghost use mathlib.Core.Path.{_≡_};
 ghost use mathlib.Core.List.{List};
 ghost use Prim.Native.Nat.{ℕ};
-ghost use Rattle.machine.specs.Replies.{ending, finishedCall, refusedCall};
+ghost use Rattle.machine.specs.Replies.{acceptedCall, ending, finishedCall, refusedCall};
 ghost use Rattle.machine.specs.Events as spec;
 use crate::replies::AfterEvent;
 use crate::run::run;
@@ -31,6 +31,18 @@ fn finish(value: u16, registers: Registers) -> AfterEvent
     }
 }
 
+// The NOP and the jump to 100H that an accepted interrupt puts in are two words done.
+fn accept(registers: Registers) -> AfterEvent
+    ensures { λ x. ⌜ ((ram : List ℕ) → ending x ram ≡ acceptedCall registers ram) ⌝ }
+{
+    AfterEvent {
+        number: 0,
+        words: 2,
+        value: 0,
+        registers,
+    }
+}
+
 // Event 5, or refusal 10.
 fn serial_out_event(r: Registers) -> AfterEvent
     ensures { λ x. ⌜ ((ram : List ℕ) → ending x ram ≡ spec.serialOutEnding r ram) ⌝ }
@@ -49,7 +61,7 @@ fn interrupt_event(r: Registers) -> AfterEvent
         if Upd77p20::STACK <= r.depth {
             return refuse(9, r);
         }
-        return finish(0, events::interrupt(r));
+        return accept(events::interrupt(r));
     }
     finish(0, r)
 }

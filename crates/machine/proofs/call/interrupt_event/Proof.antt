@@ -15,11 +15,11 @@ returns c = λ ram. rw (c .refuse .ensures ram, sym (c .before .before .before .
 
 returns-2 : tie.Need-returns-2
 unfolding interruptEnding
-returns-2 c = λ ram. rw (c .finish .ensures ram, c .before .interrupt .ensures, sym (c .before .before .before .before .before .ei .ensures) ∙ c .before .before .before .before .if1 .taken, lt-leb (upd77p20 .stack) (c .before .before .before .before .before .before .args .r .depth) (omega arith))
+returns-2 c = λ ram. rw (c .accept .ensures ram, c .before .interrupt .ensures, sym (c .before .before .before .before .before .ei .ensures) ∙ c .before .before .before .before .if1 .taken, lt-leb (upd77p20 .stack) (c .before .before .before .before .before .before .args .r .depth) (omega arith))
 
 returns-3 : tie.Need-returns-3
 unfolding interruptEnding
-returns-3 c = λ ram. rw (c .finish2 .ensures ram, sym (c .before .before .ei .ensures) ∙ c .before .if1 .left)
+returns-3 c = λ ram. rw (c .finish .ensures ram, sym (c .before .before .ei .ensures) ∙ c .before .if1 .left)
 
 pub interrupt-event-spec : {M : Type 1} → statement M
 interrupt-event-spec =
