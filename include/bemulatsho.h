@@ -58,7 +58,7 @@ extern "C" {
 /* ---- version */
 
 /* The version that this header describes. It goes up when a caller has to change. */
-#define BEMULATSHO_VERSION 1u
+#define BEMULATSHO_VERSION 2u
 
 /* The version of the library. Compare it with BEMULATSHO_VERSION once, at the start. */
 uint32_t bemulatsho_version(void);
@@ -185,7 +185,9 @@ enum bemulatsho_kind {
        value; a signed sample is (int16_t) of it. SORQ 0: refusal 10. */
     BEMULATSHO_EVENT_SERIAL_OUT = 5,
     /* value 0: interrupt edge: if EI is 1, push PC, go to 100H, clear EI; if 0, nothing.
-       It counts no words. EI 1 at depth 4: refusal 9. */
+       An accepted interrupt makes the reply's words 2, for the NOP and the jump to 100H
+       that the chip puts in; an ignored one (EI 0) has words 0. EI 1 at depth 4: refusal
+       9, with words 0. */
     BEMULATSHO_EVENT_INTERRUPT = 6,
     /* value 0: reset: PC, depth, flags, SR, SORQ, SIACK, SOACK to 0. It leaves A, B, K,
        L, TR, DR, SI, SO, DP, RP, the four stack cells and RAM. */
@@ -257,7 +259,9 @@ enum bemulatsho_number {
 struct bemulatsho_reply {
     uint8_t number; /* enum bemulatsho_number: 0 done, else the refusal. The numbering is
                        that of refusal in bemulatsho_taken_rows and bemulatsho_built */
-    uint16_t words; /* words finished by a run, also by one that is refused; else 0 */
+    uint16_t words; /* words done: those that a run finished, also one that is refused; 2
+                       for an accepted interrupt; else 0. Added up over all replies
+                       they keep step with the chip's instruction cycles */
     uint16_t value; /* what kinds 1, 3 and 5 hand; 0 for the others and when refused */
 };
 

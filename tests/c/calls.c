@@ -175,7 +175,7 @@ static void check_refused(struct machine m, uint32_t kind, uint32_t value, unsig
 
 static void version(void)
 {
-    CHECK(bemulatsho_version() == 1);
+    CHECK(bemulatsho_version() == 2);
     CHECK(bemulatsho_version() == BEMULATSHO_VERSION);
 }
 
@@ -525,19 +525,26 @@ static void interrupt(void)
     fill_registers(m.registers);
     struct state expected = state_of(m);
 
-    /* EI 0: nothing */
+    /* EI 0: nothing, and no words */
     REPLY(call(m, BEMULATSHO_EVENT_INTERRUPT, 0), 0, 0, 0);
     CHECK(same_state(m, &expected));
 
-    /* EI 1: push PC, go to 100H, clear EI; the depth was 2 */
+    /* EI 1: push PC, go to 100H, clear EI; the depth was 2; two words */
     m.registers->sr |= BEMULATSHO_SR_EI;
-    REPLY(call(m, BEMULATSHO_EVENT_INTERRUPT, 0), 0, 0, 0);
+    REPLY(call(m, BEMULATSHO_EVENT_INTERRUPT, 0), 0, 2, 0);
     expected.registers.stack2 = 0x1FF;
     expected.registers.depth = 3;
     expected.registers.pc = 0x100;
     CHECK(same_state(m, &expected));
 
-    /* EI 1 at depth 4 */
+    /* a second edge is ignored, and a run counts only the words that it fetches */
+    REPLY(call(m, BEMULATSHO_EVENT_INTERRUPT, 0), 0, 0, 0);
+    REPLY(call(m, BEMULATSHO_EVENT_RUN, 0), 0, 0, 0);
+    CHECK(same_state(m, &expected));
+    REPLY(call(m, BEMULATSHO_EVENT_RUN, 3), 0, 3, 0);
+    CHECK(m.registers->pc == 0x103);
+
+    /* EI 1 at depth 4: refused, without words */
     m.registers->sr |= BEMULATSHO_SR_EI;
     m.registers->depth = BEMULATSHO_STACK;
     REFUSED(m, BEMULATSHO_EVENT_INTERRUPT, 0, BEMULATSHO_REFUSED_PUSH);

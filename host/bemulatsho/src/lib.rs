@@ -28,7 +28,8 @@ pub mod kind {
     pub const RESET: u32 = 7;
 }
 
-/// What a call answers: 0 or the refusal's number, the words done (of a run), and a value (of kinds 1, 3 and 5).
+/// What a call answers: 0 or the refusal's number, the words done (of a run, and 2 of an accepted interrupt), and a value (of kinds 1, 3
+/// and 5).
 #[repr(C)]
 #[derive(Clone, Copy, Debug, Default, PartialEq, Eq)]
 pub struct Reply {

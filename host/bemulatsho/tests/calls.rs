@@ -13,7 +13,7 @@ fn run(word: u32, registers: &mut Registers) -> Reply {
 
 #[test]
 fn a_fresh_machine_is_all_0() {
-    assert_eq!(version(), 1);
+    assert_eq!(version(), 2);
     assert_eq!(fresh_registers(), Registers::default());
 }
 
@@ -33,6 +33,20 @@ fn a_refused_call_changes_nothing() {
     let mut registers = fresh_registers();
     let reply = event(&mut registers, &[0; bemulatsho::WORDS], &[0; bemulatsho::CELLS], &mut short, kind::RESET, 0);
     assert_eq!(reply.number, 1);
+}
+
+#[test]
+fn an_interrupt_takes_two_words_where_it_is_accepted() {
+    let edge = |registers: &mut Registers| {
+        event(registers, &[0; bemulatsho::WORDS], &[0; bemulatsho::CELLS], &mut [0; bemulatsho::RAM], kind::INTERRUPT, 0)
+    };
+    let mut registers = Registers { pc: 5, sr: 0x80, ..fresh_registers() };
+    assert_eq!(edge(&mut registers), Reply { number: 0, words: 2, value: 0 });
+    assert_eq!(registers, Registers { pc: 0x100, stack: [5, 0, 0, 0], depth: 1, ..fresh_registers() });
+    assert_eq!(edge(&mut registers), Reply { number: 0, words: 0, value: 0 });
+    assert_eq!(run(0, &mut registers), Reply { number: 0, words: 1, value: 0 });
+    let mut full = Registers { sr: 0x80, depth: 4, ..fresh_registers() };
+    assert_eq!(edge(&mut full), Reply { number: 9, words: 0, value: 0 });
 }
 
 #[test]
