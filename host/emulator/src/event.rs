@@ -19,6 +19,9 @@ pub const RESET: u32 = 7;
 
 const INTERRUPT_ADDRESS: u16 = 0x100;
 
+/// The NOP and the jump that the chip puts in for an accepted interrupt; neither is fetched.
+const INTERRUPT_WORDS: u16 = 2;
+
 /// A reply: 0 or the refusal number, the words done, and the value handed out.
 #[derive(Clone, Copy, Debug, Default, PartialEq, Eq)]
 pub struct Reply {
@@ -123,7 +126,7 @@ fn interrupt_edge(registers: &mut Registers) -> Reply {
     stack::push(registers, registers.pc);
     registers.pc = INTERRUPT_ADDRESS;
     registers.sr &= !EI;
-    Reply::DONE
+    Reply { words: INTERRUPT_WORDS, ..Reply::DONE }
 }
 
 /// The stack cells and all registers not named here stay.

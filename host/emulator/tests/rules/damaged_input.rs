@@ -115,6 +115,7 @@ fn every_call_is_answered() {
         match (kind, reply.number) {
             (0, 0) => assert_eq!(u32::from(reply.words), value),
             (0, _) => assert!(u32::from(reply.words) < value),
+            (6, 0) if before.sr & 0x0080 != 0 => assert_eq!(reply.words, 2),
             _ => assert_eq!(reply.words, 0),
         }
         if reply.number != 0 || !matches!(kind, 1 | 3 | 5) {

@@ -51,6 +51,9 @@ pub fn empty() -> Machine {
 
 pub const DONE: Reply = Reply { number: 0, words: 0, value: 0 };
 
+/// The reply to an accepted interrupt.
+pub const ACCEPTED: Reply = Reply { number: 0, words: 2, value: 0 };
+
 impl Machine {
     pub fn event(&mut self, kind: u32, value: u32) -> Reply {
         event(&mut self.registers, &self.program, &self.rom, &mut self.ram, kind, value)
@@ -66,10 +69,7 @@ impl Machine {
     #[track_caller]
     pub fn word_changes(mut self, word: u32, change: impl FnOnce(&mut Machine)) {
         self.program[usize::from(self.registers.pc)] = word;
-        let mut expected = self.clone();
-        change(&mut expected);
-        assert_eq!(self.event(0, 1), Reply { words: 1, ..DONE });
-        assert_eq!(self, expected);
+        self.event_replies(0, 1, Reply { words: 1, ..DONE }, change);
     }
 
     /// Puts one word at PC, runs it, and claims that it is refused with `number` and nothing has happened.
@@ -79,20 +79,24 @@ impl Machine {
         self.event_is_refused(0, 1, number);
     }
 
-    /// Claims that an event hands `value`, and that `change` and nothing else has happened.
+    /// Claims that an event hands `value` and counts no words, and that `change` and nothing else has happened.
     #[track_caller]
-    pub fn event_changes(mut self, kind: u32, given: u32, value: u16, change: impl FnOnce(&mut Machine)) {
+    pub fn event_changes(self, kind: u32, given: u32, value: u16, change: impl FnOnce(&mut Machine)) {
+        self.event_replies(kind, given, Reply { value, ..DONE }, change);
+    }
+
+    /// Claims that an event is answered with `reply`, and that `change` and nothing else has happened.
+    #[track_caller]
+    pub fn event_replies(mut self, kind: u32, given: u32, reply: Reply, change: impl FnOnce(&mut Machine)) {
         let mut expected = self.clone();
         change(&mut expected);
-        assert_eq!(self.event(kind, given), Reply { value, ..DONE });
+        assert_eq!(self.event(kind, given), reply);
         assert_eq!(self, expected);
     }
 
     /// Claims that an event is refused with `number` and nothing has happened.
     #[track_caller]
-    pub fn event_is_refused(mut self, kind: u32, given: u32, number: u8) {
-        let expected = self.clone();
-        assert_eq!(self.event(kind, given), Reply { number, ..DONE });
-        assert_eq!(self, expected);
+    pub fn event_is_refused(self, kind: u32, given: u32, number: u8) {
+        self.event_replies(kind, given, Reply { number, ..DONE }, |_| {});
     }
 }

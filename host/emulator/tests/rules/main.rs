@@ -9,6 +9,7 @@ mod damaged_input;
 mod destinations;
 mod fitting_registers;
 mod host_events;
+mod interrupts;
 mod jumps_and_stack;
 mod machine;
 mod operands;

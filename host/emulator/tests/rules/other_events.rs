@@ -1,4 +1,4 @@
-//! Events 4 to 7: the serial words, the interrupt edge and reset.
+//! Events 4, 5 and 7: the serial words and reset.
 
 use crate::machine::recognisable;
 use emulator::{Flags, Registers};
@@ -24,31 +24,6 @@ fn a_serial_word_goes_out() {
         m.registers.sorq = false;
         m.registers.soack = true;
     });
-}
-
-#[test]
-fn an_interrupt_is_taken() {
-    for depth in 0..4 {
-        let mut machine = recognisable();
-        machine.registers.depth = depth;
-        machine.registers.sr = 0xff83;
-        machine.event_changes(6, 0, 0, |m| {
-            m.registers.stack[usize::from(depth)] = 0x20;
-            m.registers.depth = depth + 1;
-            m.registers.pc = 0x100;
-            m.registers.sr = 0xff03;
-        });
-    }
-}
-
-#[test]
-fn an_interrupt_is_not_taken_without_ei() {
-    for depth in 0..5 {
-        let mut machine = recognisable();
-        machine.registers.depth = depth;
-        machine.registers.sr = 0xff03;
-        machine.event_changes(6, 0, 0, |_| {});
-    }
 }
 
 /// Everything not listed under event 7 stays, the stack cells too.

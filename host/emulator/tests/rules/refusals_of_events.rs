@@ -9,6 +9,12 @@ fn with(change: impl FnOnce(&mut Registers)) -> Machine {
     machine
 }
 
+/// A serial word would go out, an interrupt would be taken.
+fn ready(registers: &mut Registers) {
+    registers.sorq = true;
+    registers.sr = 0x0080;
+}
+
 #[test]
 fn refusal_1_a_wrong_length() {
     let right = (512, 512, 128);
@@ -26,7 +32,7 @@ fn refusal_1_a_wrong_length() {
     ];
     for kind in 0..8 {
         for (words, cells, ram_cells) in wrong {
-            let registers = with(|r| r.sorq = true).registers;
+            let registers = with(ready).registers;
             let mut registers_after = registers;
             let (program, rom) = (vec![0; words], vec![0; cells]);
             let mut ram = vec![7; ram_cells];
@@ -65,7 +71,7 @@ fn refusal_2_a_register_that_does_not_fit() {
     ];
     for kind in 0..8 {
         for damage in damages {
-            let mut machine = with(|r| r.sorq = true);
+            let mut machine = with(ready);
             damage(&mut machine.registers);
             machine.event_is_refused(kind, 0, 2);
         }
@@ -96,7 +102,7 @@ fn refusal_3_no_such_kind() {
 fn refusal_3_a_value_not_allowed() {
     for value in [65536, u32::MAX] {
         for kind in 0..8 {
-            recognisable().event_is_refused(kind, value, 3);
+            with(ready).event_is_refused(kind, value, 3);
         }
     }
     for value in [256, 65535] {
@@ -104,7 +110,7 @@ fn refusal_3_a_value_not_allowed() {
     }
     for kind in [1, 3, 5, 6, 7] {
         for value in [1, 255, 65535] {
-            with(|r| r.sorq = true).event_is_refused(kind, value, 3);
+            with(ready).event_is_refused(kind, value, 3);
         }
     }
 }

@@ -2,7 +2,7 @@
 
 use crate::assemble::{dst, op, rt, src, Op};
 use crate::fitting_registers::fitting_registers;
-use crate::machine::{recognisable, Machine, DONE, HERE, NEXT};
+use crate::machine::{recognisable, Machine, ACCEPTED, DONE, HERE, NEXT};
 use emulator::{trial, Reply};
 use random::Random;
 
@@ -98,7 +98,7 @@ fn without_dphm_both_agree() {
 }
 
 #[test]
-fn events_that_run_no_word_agree() {
+fn events_that_fetch_no_word_agree() {
     let mut random = Random::new(20);
     for _ in 0..2_000 {
         let mut chip = recognisable();
@@ -108,5 +108,15 @@ fn events_that_run_no_word_agree() {
         let reply = chip.event(kind, value);
         let on_trial_desk = trial::event(&mut desk.registers, &desk.program, &desk.rom, &mut desk.ram, kind, value);
         assert_eq!((on_trial_desk, desk), (reply, chip), "event {kind} {value}");
+    }
+}
+
+#[test]
+fn interrupts_count_the_same_words() {
+    for (sr, depth, reply) in [(0x0080, 3, ACCEPTED), (0x0000, 3, DONE), (0x0000, 4, DONE), (0x0080, 4, Reply { number: 9, ..DONE })] {
+        let mut desk = recognisable();
+        desk.registers.sr = sr;
+        desk.registers.depth = depth;
+        assert_eq!(trial::event(&mut desk.registers, &desk.program, &desk.rom, &mut desk.ram, 6, 0), reply);
     }
 }
