@@ -1,6 +1,9 @@
 //! What the compared runs met: each code of each field in a word that finished, each condition both ways, each refusal, each kind of
-//! event answered. Something that was never met is a failure of the comparison.
+//! event answered, each answer to an interrupt. Something that was never met is a failure of the comparison.
 
+use emulator::event::INTERRUPT_EDGE;
+use emulator::refusal::STACK_FULL;
+use emulator::status::EI;
 use emulator::{Registers, Word};
 
 /// How often each number of a field was met.
@@ -39,7 +42,13 @@ pub struct Coverage {
     returns: Field,
     refusals: Field,
     kinds: Field,
+    // What becomes of an interrupt: with EI 0, with EI 1, on a full stack.
+    interrupts: Field,
 }
+
+const IGNORED: usize = 0;
+const ACCEPTED: usize = 1;
+const REFUSED: usize = 2;
 
 impl Coverage {
     pub fn new() -> Coverage {
@@ -56,6 +65,7 @@ impl Coverage {
             returns: Field::new("RT", 2),
             refusals: Field::new("refusal", 11),
             kinds: Field::new("answered event", 8),
+            interrupts: Field::new("answer to an interrupt (0 ignored, 1 accepted, 2 refused)", 3),
         };
         // Words with another BRCH are refused.
         for unknown in [0, 1, 3, 6, 7] {
@@ -88,10 +98,17 @@ impl Coverage {
         }
     }
 
-    pub fn reply(&mut self, kind: u32, number: u8) {
+    /// The answer to an event, with the registers before it.
+    pub fn reply(&mut self, kind: u32, before: &Registers, number: u8) {
         self.refusals.met(usize::from(number));
         if number == 0 {
             self.kinds.met(kind as usize);
+        }
+        match (kind, number) {
+            (INTERRUPT_EDGE, 0) if before.sr & EI == 0 => self.interrupts.met(IGNORED),
+            (INTERRUPT_EDGE, 0) => self.interrupts.met(ACCEPTED),
+            (INTERRUPT_EDGE, STACK_FULL) => self.interrupts.met(REFUSED),
+            _ => {}
         }
     }
 
@@ -110,6 +127,7 @@ impl Coverage {
             &self.returns,
             &self.refusals,
             &self.kinds,
+            &self.interrupts,
         ];
         fields.iter().flat_map(|field| field.missing()).collect()
     }

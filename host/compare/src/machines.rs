@@ -85,12 +85,12 @@ fn machine(seed: u64, coverage: &mut Coverage) -> Result<u64, Failure> {
     let mut pair = Pair::lent(registers, states::program(&mut random), states::rom(&mut random), states::ram(&mut random));
     for count in 0..EVENTS {
         let (kind, value) = event(&mut random);
+        let before = pair.registers;
         let failure = |difference| Failure { seed, event: count, difference };
         let reply = if random.one_in(40) {
-            let kept = pair.registers;
-            pair.registers = states::damaged(&mut random, &kept);
+            pair.registers = states::damaged(&mut random, &before);
             let reply = pair.event(kind, value).map_err(failure)?;
-            pair.registers = kept;
+            pair.registers = before;
             reply
         } else if random.one_in(40) {
             with_a_wrong_length(&mut random, &pair).event(kind, value).map_err(failure)?
@@ -100,7 +100,7 @@ fn machine(seed: u64, coverage: &mut Coverage) -> Result<u64, Failure> {
             }
             pair.event(kind, value).map_err(failure)?
         };
-        coverage.reply(kind, reply.number);
+        coverage.reply(kind, &before, reply.number);
         unstick(&mut random, &mut pair, &reply);
     }
     Ok(u64::from(EVENTS))

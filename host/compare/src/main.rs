@@ -82,7 +82,8 @@ fn random_machines(seed: u64, events: u64) -> Result<(), String> {
     if !missing.is_empty() {
         return Err(format!("{done} events never met: {}", missing.join(", ")));
     }
-    report(done, &format!("events on random machines from seed {seed}, every code, condition, refusal and kind met"));
+    let met = "every code, condition, refusal, kind and answer to an interrupt met";
+    report(done, &format!("events on random machines from seed {seed}, {met}"));
     Ok(())
 }
 
