@@ -73,6 +73,9 @@ pub fn refusal(number: u8) -> String {
     format!("refusal {number}, {}", meaning(number))
 }
 
+/// What is said of an interrupt that did nothing.
+pub const IGNORED: &str = "ignored: EI is 0";
+
 /// An event and what it was answered.
 #[derive(Clone, Copy, Debug)]
 pub struct Answered {
@@ -93,6 +96,16 @@ impl Answered {
     pub fn has_value(&self) -> bool {
         matches!(self.event.kind, kind::HOST_READS | kind::HOST_READS_STATUS | kind::SERIAL_OUT)
     }
+
+    /// Whether the reply of this kind of event has words done.
+    pub fn has_words(&self) -> bool {
+        matches!(self.event.kind, kind::RUN | kind::INTERRUPT)
+    }
+
+    /// Whether it is an interrupt that found EI 0: one that is accepted takes words.
+    pub fn is_ignored(&self) -> bool {
+        self.event.kind == kind::INTERRUPT && self.reply.number == 0 && self.reply.words == 0
+    }
 }
 
 /// The event, its reply's number with its meaning, and the words done or the value.
@@ -100,11 +113,16 @@ impl fmt::Display for Answered {
     fn fmt(&self, f: &mut fmt::Formatter) -> fmt::Result {
         let Reply { number, words, value } = self.reply;
         write!(f, "{}: {number} {}", self.event, meaning(number))?;
-        match self.event.kind {
-            kind::RUN => write!(f, ", {}", counted(u32::from(words))),
-            _ if self.has_value() => write!(f, ", value {}", self.value(u32::from(value))),
-            _ => Ok(()),
+        if self.has_words() {
+            write!(f, ", {}", counted(u32::from(words)))?;
         }
+        if self.has_value() {
+            write!(f, ", value {}", self.value(u32::from(value)))?;
+        }
+        if self.is_ignored() {
+            write!(f, " ({IGNORED})")?;
+        }
+        Ok(())
     }
 }
 
@@ -134,7 +152,9 @@ mod tests {
         assert_eq!(line(3, 0, 0, 0, 0x80), "status: 0 done, value 80H");
         assert_eq!(line(4, 0x2000, 0, 0, 0), "in 2000H: 0 done");
         assert_eq!(line(5, 0, 0, 0, 0x1000), "out: 0 done, value 1000H");
-        assert_eq!(line(6, 0, 0, 0, 0), "interrupt: 0 done");
+        assert_eq!(line(6, 0, 0, 2, 0), "interrupt: 0 done, 2 words");
+        assert_eq!(line(6, 0, 0, 0, 0), "interrupt: 0 done, 0 words (ignored: EI is 0)");
+        assert_eq!(line(6, 0, 9, 0, 0), "interrupt: 9 call, or interrupt taken, at depth 4, 0 words");
         assert_eq!(line(7, 4, 3, 0, 0), "event 7 4: 3 event kind over 7, or value not allowed");
         assert_eq!(line(9, 0, 3, 0, 0), "event 9 0: 3 event kind over 7, or value not allowed");
     }

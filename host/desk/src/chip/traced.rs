@@ -1,6 +1,6 @@
 //! The lines of a trace: a word with its address and mnemonics, or an event, and what it changed.
 
-use crate::chip::event::{meaning, Answered, Event};
+use crate::chip::event::{meaning, Answered, Event, IGNORED};
 use crate::chip::machine::Machine;
 use crate::chip::mnemonics;
 use crate::chip::state::State;
@@ -32,9 +32,13 @@ pub struct TracedEvent {
 
 pub fn give_event(machine: &mut Machine, event: Event) -> TracedEvent {
     let before = State::of(machine);
-    let reply = machine.event(event.kind, event.value);
-    let changes = if reply.number == 0 { before.changes(&State::of(machine)) } else { refused(reply) };
-    TracedEvent { answered: Answered { event, reply }, changes }
+    let answered = Answered { event, reply: machine.event(event.kind, event.value) };
+    let changes = match answered.reply.number {
+        0 if answered.is_ignored() => IGNORED.to_string(),
+        0 => before.changes(&State::of(machine)),
+        _ => refused(answered.reply),
+    };
+    TracedEvent { answered, changes }
 }
 
 fn refused(reply: Reply) -> String {
@@ -81,7 +85,7 @@ impl Columns {
         Columns::wide_enough(words.iter().map(|word| mnemonics::line(*word).len()).max().unwrap_or(0))
     }
 
-    /// The line of a word; `number` counts the words that finished.
+    /// The line of a word; `number` counts the words that finished, without the two that an interrupt takes: they have no line.
     pub fn word(&self, number: u64, word: &TracedWord) -> String {
         let number = if word.reply.number == 0 { number.to_string() } else { String::new() };
         let place = format!("{}  {}", word.spelled.address, word.spelled.word);
@@ -91,6 +95,7 @@ impl Columns {
     pub fn event(&self, event: &TracedEvent) -> String {
         let answered = &event.answered;
         let reply = match answered.reply.number {
+            0 if answered.has_words() => format!("reply 0 words {}", answered.reply.words),
             0 if answered.has_value() => format!("reply 0 value {}", answered.value(u32::from(answered.reply.value))),
             0 => "reply 0".to_string(),
             _ => String::new(),

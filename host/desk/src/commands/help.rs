@@ -29,9 +29,9 @@ const RUN: &str = "\
 desk run [--quiet | --json] [--program FILE] [--data FILE] [--preset FILE] SCRIPT
 
 Plays a script on the proved core; `-` reads it from standard input. Each event prints its reply: the number
-with its meaning, the words done, the value. The first expectation that does not hold ends the run with
-status 1, and so does an event that is refused where no `reply` behind it expects that. A record is a script
-too, in text or in the compact form.
+with its meaning, the words done (of a run, and 2 of an interrupt that is accepted), the value. The first
+expectation that does not hold ends the run with status 1, and so does an event that is refused where no `reply`
+behind it expects that. A record is a script too, in text or in the compact form.
 
   --quiet          print failures only
   --json           print one object a reply
@@ -76,6 +76,7 @@ desk trace [--from N] [--count N] [--program FILE] [--data FILE] [--preset FILE]
 
 Plays and judges a script as `desk run` does, word by word, and prints each word as it finishes: its address,
 the word, its fields in the manual's mnemonics, and only what changed. This is how a wrong channel map is found.
+The two words that an interrupt takes stand in its reply; they have no line and no number.
 
   --from N         print nothing of the first N words
   --count N        print N words; what comes behind them is played and judged all the same

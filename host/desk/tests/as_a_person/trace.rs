@@ -99,19 +99,34 @@ fn host_events_interrupt_and_reset_print_a_line_each() {
         "        read           reply 0 value 34H    SR 9080H",
         "        read           reply 0 value 12H    SR 0080H",
         "        write 56H      reply 0              DR 1256H  SR 1080H",
-        "        interrupt      reply 0              PC 100H  DEPTH 1H  SR 1000H",
-        "        interrupt      reply 0",
+        "        interrupt      reply 0 words 2      PC 100H  DEPTH 1H  SR 1000H",
+        "        interrupt      reply 0 words 0      ignored: EI is 0",
         "        reset          reply 0              PC 000H  DEPTH 0H  SR 0000H",
         "        write 100H                          refused 3: event kind over 7, or value not allowed",
     ];
     assert_eq!(traced(script, ""), lines(&expected));
 }
 
+/// `--from` and `--count` speak of the words that have a line.
+#[test]
+fn the_two_words_of_an_interrupt_stand_in_its_reply_and_have_no_number() {
+    let script = "set SR 80H\nrun 1\ninterrupt\nrun 2\n";
+    let expected = [
+        "     1  000H  000000H  NOP",
+        "        interrupt      reply 0 words 2      PC 100H  STACK0 001H  DEPTH 1H  SR 0000H",
+        "     2  100H  000000H  NOP",
+        "     3  101H  000000H  NOP",
+    ];
+    assert_eq!(traced(script, ""), lines(&expected));
+    assert_eq!(traced(script, "--from 2"), lines(&expected[3..]));
+    assert_eq!(traced(script, "--from 1 --count 1"), lines(&expected[1..3]));
+}
+
 #[test]
 fn runs_of_no_words_or_too_many_and_unknown_events_are_answered() {
     let script = "run 0\nrun 65536\nreply 3\nrun 4294967295\nreply 3\nevent 8 5\nreply 3\nevent 5 1\nreply 3\n";
     let expected = [
-        "        run 0          reply 0",
+        "        run 0          reply 0 words 0",
         "        run 65536                           refused 3: event kind over 7, or value not allowed",
         "        run 4294967295                       refused 3: event kind over 7, or value not allowed",
         "        event 8 5                           refused 3: event kind over 7, or value not allowed",

@@ -69,6 +69,21 @@ fn a_refused_event_that_no_reply_expects_is_a_difference() {
     }
 }
 
+/// An interrupt's words done: 2 of one that is accepted, 0 of one that is ignored or refused.
+#[test]
+fn the_words_of_an_interrupt_are_judged() {
+    for (before, number, words) in [("set SR 80H", 0, 2), ("set SR 0", 0, 0), ("set SR 80H\nset DEPTH 4", 9, 0)] {
+        for said in 0..=2 {
+            let interrupt = format!("{before}\ninterrupt\nreply {number} words {said}\nset PC 0\nset DEPTH 0\n");
+            let checked = both_forms(&HOLDS.replace("run 1\n", &format!("{interrupt}run 1\n")));
+            match said == words {
+                true => checked.is("agrees", "1 sample, as the chip sends it"),
+                false => checked.says("differs", &format!(" with {words} words")),
+            }
+        }
+    }
+}
+
 #[test]
 fn a_word_that_is_refused_in_a_run_is_told_before_the_difference() {
     let checked = both_forms("program 0: 800000H\nrun 3\nout\nsent 1\nsamples 1\n");

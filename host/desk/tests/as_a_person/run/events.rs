@@ -40,8 +40,8 @@ fn every_event_prints_its_reply() {
                 read\nreply 0 value 0\n\
                 read\nreply 0 value 20H\n\
                 write 34H\nwrite 12H\nreply 0\nexpect DR 1234H\n\
-                interrupt\nreply 0\nexpect PC 3\n\
-                set SR 80H\ninterrupt\nreply 0\nexpect PC 100H\nexpect DEPTH 1\nexpect STACK0 3\n\
+                interrupt\nreply 0 words 0\nexpect PC 3\n\
+                set SR 80H\ninterrupt\nreply 0 words 2\nexpect PC 100H\nexpect DEPTH 1\nexpect STACK0 3\n\
                 run 1\nrun 0\nevent 0 2\nevent 4 5\n";
     let printed = "reset: 0 done\n\
                    in 2000H: 0 done\n\
@@ -52,8 +52,8 @@ fn every_event_prints_its_reply() {
                    read: 0 done, value 20H\n\
                    write 34H: 0 done\n\
                    write 12H: 0 done\n\
-                   interrupt: 0 done\n\
-                   interrupt: 0 done\n\
+                   interrupt: 0 done, 0 words (ignored: EI is 0)\n\
+                   interrupt: 0 done, 2 words\n\
                    run 1: 0 done, 1 word\n\
                    run 0: 0 done, 0 words\n\
                    run 2: 0 done, 2 words\n\

@@ -22,7 +22,7 @@ fn refused() -> Vec<(&'static str, u32, String)> {
         ("program 2: 000001H\nrun 5", 6, "run 5: 6 SRC none where the bus is used, 2 words".to_string()),
         ("rom 0: 2000H\nprogram 0: 000061H\nrun 1", 7, "run 1: 7 the data ROM cell at RP is 8192 or more, 0 words".to_string()),
         ("program 0: 200000H\nrun 1", 8, "run 1: 8 RT at depth 0, 0 words".to_string()),
-        ("set DEPTH 4\nset SR 80H\ninterrupt", 9, "interrupt: 9 call, or interrupt taken, at depth 4".to_string()),
+        ("set DEPTH 4\nset SR 80H\ninterrupt", 9, "interrupt: 9 call, or interrupt taken, at depth 4, 0 words".to_string()),
         ("out", 10, "out: 10 serial out with SORQ 0, value 0000H".to_string()),
     ]
 }
