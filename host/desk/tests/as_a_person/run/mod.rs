@@ -5,6 +5,7 @@ mod events;
 pub mod examples;
 mod expectations;
 mod includes;
+mod interrupts;
 mod lines;
 mod printed;
 mod refusals;
