@@ -57,7 +57,8 @@ extern "C" {
 
 /* ---- version */
 
-/* The version that this header describes. It goes up when a caller has to change. */
+/* The version that this header describes. It goes up when a caller has to change.
+   2: an accepted interrupt has words 2 in its reply; in version 1 it had 0. */
 #define BEMULATSHO_VERSION 2u
 
 /* The version of the library. Compare it with BEMULATSHO_VERSION once, at the start. */
