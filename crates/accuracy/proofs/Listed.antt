@@ -91,18 +91,22 @@ twice true = omega arith
 twice false = omega arith
 
 -- a run counts its words, an accepted interrupt 2, and any other event none
-call-counted : (r : Registers) (c : Call) → ended r c .words ≡ wordsIn (callDeeds r c) + 2 * cond (interruptAccepted (c .kind) r (ended r c)) 1 0
-unfolding wordsIn
-call-counted r c = go (c .kind) refl
-  where
-    go : (kind : ℕ) → c .kind ≡ kind → ended r c .words ≡ wordsIn (callDeeds r c) + 2 * cond (interruptAccepted (c .kind) r (ended r c)) 1 0
-    go zero e =
-        let none : cond {A = ℕ} (interruptAccepted (c .kind) r (ended r c)) 1 0 ≡ 0 = ap (λ kind. cond {A = ℕ} (interruptAccepted kind r (ended r c)) 1 0) e in
-        omega (arith, call-listed r c e .counted, none)
-    go (suc kind) e =
-        let none : wordsIn (callDeeds r c) ≡ 0 = ap wordsIn (other-deeds r c kind e) ∙ of-cond (λ ds. wordsIn ds ≡ 0) (eqb (ended r c .number) 0) refl refl in
-        let counted : ended r c .words ≡ cond {A = ℕ} (interruptAccepted (c .kind) r (ended r c)) 2 0 = rw e (counts-interrupts r (c .program) (c .rom) (c .ram) kind (c .value)) in
-        omega (arith, none, counted, twice (interruptAccepted (c .kind) r (ended r c)))
+module _ (r : Registers) (c : Call) where
+  abbrev accepted : Bool
+  accepted = interruptAccepted (c .kind) r (ended r c)
+
+  call-counted : ended r c .words ≡ wordsIn (callDeeds r c) + 2 * cond accepted 1 0
+  unfolding wordsIn
+  call-counted = go (c .kind) refl
+    where
+      go : (kind : ℕ) → c .kind ≡ kind → ended r c .words ≡ wordsIn (callDeeds r c) + 2 * cond accepted 1 0
+      go zero e =
+          let none : cond {A = ℕ} accepted 1 0 ≡ 0 = ap (λ kind. cond {A = ℕ} (interruptAccepted kind r (ended r c)) 1 0) e in
+          omega (arith, call-listed r c e .counted, none)
+      go (suc kind) e =
+          let none : wordsIn (callDeeds r c) ≡ 0 = ap wordsIn (other-deeds r c kind e) ∙ of-cond (λ ds. wordsIn ds ≡ 0) (eqb (ended r c .number) 0) refl refl in
+          let counted : ended r c .words ≡ cond {A = ℕ} accepted 2 0 = rw e (counts-interrupts r (c .program) (c .rom) (c .ram) kind (c .value)) in
+          omega (arith, none, counted, twice accepted)
 
 -- ---- all calls
 

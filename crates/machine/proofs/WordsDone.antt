@@ -7,12 +7,12 @@ use mathlib.Core.Bool.{Bool, true, false, cond, _&&_, false≢true}
 use mathlib.Core.List.{List, []}
 use borrow.Author.Tests.{ne-eqb}
 use lib.Dec.{eqb}
-use Rattle.numbers.proofs.Choices.{of-cond}
+use Rattle.numbers.proofs.Choices.{of-cond, by-cond}
 use Rattle.device.specs.declared.registers.Registers.{Registers}
 use Rattle.status.specs.Status.{ei}
 use Rattle.words.specs.Refusals.{stackFull}
-use Rattle.events.specs.Events.{allowed, interrupted}
-use Rattle.machine.specs.Replies.{Ending, refusedCall, finishedCall, acceptedCall}
+use Rattle.events.specs.Events.{allowed}
+use Rattle.machine.specs.Replies.{Ending}
 use Rattle.machine.specs.Counting.{none}
 use Rattle.machine.specs.Events.{serialOutEnding, interruptEnding, kindDone, eventDone}
 use Rattle.machine.specs.WordsDone.{interruptAccepted, InterruptAnswers, CountsInterrupts, Fetched, CountsFetched}
@@ -23,21 +23,10 @@ use Rattle.machine.proofs.Endings.{by-tests}
 abbrev Right : Registers → ℕ → Ending → Type 0
 Right r kind e = e .words ≡ cond (interruptAccepted kind r e) 2 0
 
--- kind 6: the definition's two tests
+-- kind 6, by its two tests
 edge-counts : (r : Registers) (ram : List ℕ) → Right r 6 (interruptEnding r ram)
 unfolding interruptEnding
-edge-counts r ram = go (ei (r .sr)) (stackFull r)
-  where
-    go : (enabled full : Bool) → let e = cond enabled (cond full (refusedCall 9 r ram) (acceptedCall (interrupted r) ram)) (finishedCall 0 r ram) in
-        e .words ≡ cond (eqb 6 6 && eqb (e .number) 0 && enabled) 2 0
-    go true true = refl
-    go true false = refl
-    go false full = refl
-
--- nothing is against the call, so its answer is that of the two tests
-pub interrupt-answers : InterruptAnswers
-unfolding eventDone kindDone interruptEnding
-interrupt-answers r program rom ram long fit = ((λ off. rw (long, fit, off)), (λ on full. rw (long, fit, on, full)), (λ on room. rw (long, fit, on, room)))
+edge-counts r ram = by-cond (Right r 6) (ei (r .sr)) (λ on. of-cond (Right r 6) (stackFull r) refl (rw on)) (λ off. rw off)
 
 pub counts-interrupts : CountsInterrupts
 counts-interrupts r program rom ram kind value =
@@ -58,6 +47,11 @@ counts-interrupts r program rom ram kind value =
     go (suc (suc (suc (suc (suc zero))))) ok = unfold kindDone in edge-counts r ram
     go (suc (suc (suc (suc (suc (suc zero)))))) ok = unfold kindDone in refl
     go (suc (suc (suc (suc (suc (suc (suc kind))))))) ok = absurd (false≢true ok)
+
+-- nothing is against the call, so its answer is that of the two tests
+pub interrupt-answers : InterruptAnswers
+unfolding eventDone kindDone interruptEnding
+interrupt-answers r program rom ram long fit = ((λ off. rw (long, fit, off)), (λ on full. rw (long, fit, on, full)), (λ on room. rw (long, fit, on, room)))
 
 -- kind 0: a call that is refused as a whole finishes no word, else the run counts
 pub counts-fetched : CountsFetched

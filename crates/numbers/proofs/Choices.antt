@@ -14,6 +14,11 @@ module _ {A : Type 0} (P : A → Type 0) where
   of-cond true h k = h
   of-cond false h k = k
 
+  -- each of the two by what the test said
+  pub by-cond : (t : Bool) {x y : A} → (t ≡ true → P x) → (t ≡ false → P y) → P (cond t x y)
+  by-cond true h k = h refl
+  by-cond false h k = k refl
+
   pub of-getD : (l : List A) (n : ℕ) {d : A} → Every P l → P d → P (getD l n d)
   of-getD [] n h k = k
   of-getD (x ∷ l) zero h k = h .0
