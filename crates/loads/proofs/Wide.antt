@@ -1,6 +1,6 @@
 -- A value that is too wide is in the image as the text gives it, and the machine refuses it when it is used. Assumes nothing.
 use mathlib.Core.Path.{_≡_, sym, ap, _∙_}
-use mathlib.Core.Bool.{true}
+use mathlib.Core.Bool.{Bool, true, false, false≢true}
 use mathlib.Core.List.{List}
 use Prim.Native.Nat.{ℕ, suc, _<_, _≤_}
 use native.Mathlib.Omega.{arith}
@@ -14,11 +14,14 @@ use Rattle.device.specs.declared.registers.Registers.{Registers}
 use Rattle.image.specs.IntelHex.{intelHex}
 use Rattle.image.specs.Image.{load}
 use Rattle.word.specs.Word.{takenApart}
+use Rattle.word.specs.declared.LdiFields.{LdiFields}
+use Rattle.word.specs.declared.OpFields.{OpFields}
 use Rattle.word.specs.declared.Word.{Word}
 use Rattle.word.specs.declared.Word.the-variants.{Op, Rt, Jp, Ldi}
 use Rattle.word.proofs.RoundTrip.{taken-refused}
 use Rattle.words.specs.Outcomes.{Outcome, refusedWord}
-use Rattle.words.specs.Refusals.{opRefusal, ldiRefusal}
+use Rattle.words.specs.Refusals.{sourceMissing, unusedBits, usesCell, opRefusal, ldiRefusal}
+use Rattle.words.specs.Order.{readsCell}
 use Rattle.words.specs.Operation.{opWord}
 use Rattle.words.specs.Load.{ldiWord}
 use Rattle.words.specs.Word.{rowDone, fetchedDone, wordDone}
@@ -62,12 +65,19 @@ unfolding takenApart
 narrow-taken w h = rw (lt-ltb w (wordLimit upd77p20) h)
 
 module _ (r : Registers) (rom ram : List ℕ) (wide : leb (cellLimit upd77p20) (romAt rom (r .rp)) ≡ true) where
+  wide-op : (rt : Bool) (f : OpFields) → sourceMissing f ≡ false → usesCell f ≡ true → opWord rt r f ram rom ≡ refusedWord 7 r ram
+  unfolding opWord opRefusal
+  wide-op rt f source uses = rw (source, uses, wide)
+
+  wide-ldi : (f : LdiFields) → unusedBits (Ldi f) ≡ false → readsCell (Ldi f) ≡ true → ldiWord r f ram rom ≡ refusedWord 7 r ram
+  unfolding ldiWord ldiRefusal
+  wide-ldi f unused uses = rw (unused, uses, wide)
+
   wide-cell : (word : Word) → Reads word → rowDone r word ram rom ≡ refusedWord 7 r ram
-  unfolding opWord opRefusal ldiWord ldiRefusal
-  wide-cell (Op f) u = rw (u .0, u .1, wide)
-  wide-cell (Rt f) u = rw (u .0, u .1, wide)
-  wide-cell (Jp f) u = absurd u
-  wide-cell (Ldi f) u = rw (u, wide)
+  wide-cell (Op f) u = wide-op false f (u .1) (u .2)
+  wide-cell (Rt f) u = wide-op true f (u .1) (u .2)
+  wide-cell (Jp f) u = absurd (false≢true (u .2))
+  wide-cell (Ldi f) u = wide-ldi f (u .0) (u .2)
 
   wide-fetched : (w : ℕ) → w < wordLimit upd77p20 → Reads (takenApart w .word) → fetchedDone r w ram rom ≡ refusedWord 7 r ram
   unfolding fetchedDone

@@ -14,10 +14,8 @@ use Rattle.image.specs.IntelHex.{intelHex}
 use Rattle.image.specs.Image.{value, load}
 use Rattle.word.specs.Word.{takenApart}
 use Rattle.word.specs.declared.Word.{Word}
-use Rattle.word.specs.declared.Word.the-variants.{Op, Rt, Jp, Ldi}
-use Rattle.codes.specs.Codes.{isDestination}
-use Rattle.codes.specs.declared.Destination.the-variants as Dst
-use Rattle.words.specs.Refusals.{sourceMissing, usesCell}
+use Rattle.words.specs.Refusals.{unusedBits}
+use Rattle.words.specs.Order.{lacksSource, readsCell}
 use Rattle.machine.specs.Replies.{refusedCall}
 use Rattle.machine.specs.Events.{eventDone}
 use Rattle.loads.specs.Given.{Closed, ExactlyOnce, bytesFor}
@@ -51,12 +49,9 @@ WordTooWide =
     → wordLimit upd77p20 ≤ valueGiven 4 text (r .pc .0)
     → (count : ℕ) → count < 65535 → eventDone r (loaded .image) rom ram 0 (suc count) ≡ refusedCall 4 r ram
 
--- a word that is not refused for another reason before, and uses the data ROM cell
+-- a word that uses the data ROM cell, and to which no refusal that stands before 7 applies
 abbrev pub Reads : Word → Type 0
-Reads (Op f) = (sourceMissing f ≡ false) × (usesCell f ≡ true)
-Reads (Rt f) = (sourceMissing f ≡ false) × (usesCell f ≡ true)
-Reads (Jp f) = ⊥
-Reads (Ldi f) = isDestination (f .dst) Dst.Klr ≡ true
+Reads word = (unusedBits word ≡ false) × (lacksSource word ≡ false) × (readsCell word ≡ true)
 
 -- ".. or 7"
 abbrev pub CellTooWide : Type 0

@@ -12,7 +12,9 @@ use Rattle.device.specs.declared.registers.Registers.{Registers}
 use Rattle.word.specs.Fields.{opFields, jpFields, ldiFields}
 use Rattle.word.specs.Word.{wordOf, takenApart}
 use Rattle.word.specs.declared.OpFields.{OpFields}
+use Rattle.word.specs.declared.JpFields.{JpFields}
 use Rattle.word.specs.declared.LdiFields.{LdiFields}
+use Rattle.word.specs.declared.Word.the-variants.{Jp}
 use Rattle.codes.specs.Codes.{sourceOf, destinationOf}
 use Rattle.codes.specs.declared.Source.{Source}
 use Rattle.codes.specs.declared.Destination.{Destination}
@@ -22,7 +24,7 @@ use Rattle.stages.specs.Destinations.{loaded, ramLoaded}
 use Rattle.stages.specs.Pointing.{pointed}
 use Rattle.stages.proofs.Keeping.{accumulated-read, read-pointers, accumulated-pointers, pointed-loaded}
 use Rattle.words.specs.Outcomes.{refusedWord, finishedWord}
-use Rattle.words.specs.Refusals.{opRefusal, ldiRefusal}
+use Rattle.words.specs.Refusals.{branchUnknown, unusedBits, opRefusal, jpRefusal, ldiRefusal}
 use Rattle.words.specs.Operation.{opBus, opRegisters, opRam, pcMoved, opWord}
 use Rattle.words.specs.Load.{ldiRegisters, ldiRam, ldiWord}
 use Rattle.words.specs.Jump.{jpWord}
@@ -78,6 +80,12 @@ module _ (rt : Bool) (r : Registers) (f : OpFields) (ram rom : List ℕ) {n : �
   op-composed eb e₁ e₂ e₃ ea e₄ e₅ =
       rw (e₅, e₄, e₃, ea, e₂, e₁, eb, s, d)
       ((λ i. finishedWord (pcMoved rt (op-staged r f ram rom i)) (op-stored r f ram rom i)) ∙ op-finished rt r f ram rom number none)
+
+-- ---- a JP word
+
+pub jp-unused : (r : Registers) (f : JpFields) (ram : List ℕ) → branchUnknown f ≡ false → unusedBits (Jp f) ≡ true → refusedWord 18 r ram ≡ jpWord r f ram
+unfolding jpWord jpRefusal
+jp-unused r f ram k u = rw (k, u)
 
 -- ---- an LDI word
 

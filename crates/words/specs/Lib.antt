@@ -4,4 +4,5 @@ pub mod Operation
 pub mod Jump
 pub mod Load
 pub mod Word
+pub mod Order
 pub mod OneWord

@@ -1,6 +1,6 @@
--- Which words are refused: 01, "Replies". "The lowest number that applies is given": the tests stand in rising order.
+-- Which words are refused: 01, "Replies", and 02, E8. In each row the tests stand in the order of `Order`.
 use Prim.Native.Nat.{ℕ}
-use mathlib.Core.Bool.{Bool, cond, not, _&&_, _||_}
+use mathlib.Core.Bool.{Bool, false, cond, not, _&&_, _||_}
 use mathlib.Core.List.{List}
 use lib.Dec.{leb, eqb}
 use Rattle.device.specs.Device.{upd77p20, cellLimit}
@@ -10,6 +10,8 @@ use Rattle.word.specs.Fields.{select, branch}
 use Rattle.word.specs.declared.OpFields.{OpFields}
 use Rattle.word.specs.declared.JpFields.{JpFields}
 use Rattle.word.specs.declared.LdiFields.{LdiFields}
+use Rattle.word.specs.declared.Word.{Word}
+use Rattle.word.specs.declared.Word.the-variants.{Op, Rt, Jp, Ldi}
 use Rattle.codes.specs.Codes.{isSource, isDestination}
 use Rattle.codes.specs.declared.Source.the-variants as Src
 use Rattle.codes.specs.declared.Destination.the-variants as Dst
@@ -17,6 +19,17 @@ use Rattle.codes.specs.declared.Destination.the-variants as Dst
 -- refusal 5: "BRCH none of 010, 100, 101"
 abbrev pub branchUnknown : JpFields → Bool
 branchUnknown f = not (eqb (f .brch) (branch .conditional) || eqb (f .brch) (branch .jump) || eqb (f .brch) (branch .call))
+
+-- refusal 18: "Words taken from an image for running must have spare bits 0, and CND 0 under an unconditional jump or a call". OP and RT
+-- words have no spare bits
+abbrev pub unconditional : JpFields → Bool
+unconditional f = eqb (f .brch) (branch .jump) || eqb (f .brch) (branch .call)
+
+abbrev pub unusedBits : Word → Bool
+unusedBits (Op f) = false
+unusedBits (Rt f) = false
+unusedBits (Jp f) = not (eqb (f .spare) 0) || (unconditional f && not (eqb (f .cnd) 0))
+unusedBits (Ldi f) = not (eqb (f .spare) 0)
 
 -- refusal 6: "SRC none in an OP or RT word, and either DST is not 0 or 14, or the ALU operation is 1 to 7 with P-select bus"
 abbrev pub sendsBus : OpFields → Bool
@@ -52,7 +65,10 @@ opRefusal rt r f rom =
 unfoldable pub jpRefusal : Registers → JpFields → ℕ
 jpRefusal r f =
     cond (branchUnknown f) 5
-    (cond (eqb (f .brch) (branch .call) && stackFull r) 9 0)
+    (cond (unusedBits (Jp f)) 18
+    (cond (eqb (f .brch) (branch .call) && stackFull r) 9 0))
 
 unfoldable pub ldiRefusal : Registers → LdiFields → List ℕ → ℕ
-ldiRefusal r f rom = cond (isDestination (f .dst) Dst.Klr && cellTooWide r rom) 7 0
+ldiRefusal r f rom =
+    cond (unusedBits (Ldi f)) 18
+    (cond (isDestination (f .dst) Dst.Klr && cellTooWide r rom) 7 0)

@@ -1,8 +1,8 @@
-// Which words are refused, the lowest number first.
+// Which words are refused: in each row the tests stand in the order in which refusals are given.
 ghost use mathlib.Core.Path.{_≡_};
-ghost use mathlib.Core.Bool.{_&&_};
-ghost use lib.Dec.{leb};
-ghost use Rattle.word.specs.Fields.{opFields, ldiFields};
+ghost use mathlib.Core.Bool.{not, _&&_, _||_};
+ghost use lib.Dec.{leb, eqb};
+ghost use Rattle.word.specs.Fields.{opFields, jpFields, ldiFields};
 ghost use Rattle.words.specs.Refusals as spec;
 use device::Registers;
 use device::Upd77p20;
@@ -59,9 +59,19 @@ pub(crate) fn op_refusal(r: Registers, w: u32, rom: &[u16]) -> u8
     0
 }
 
+// Spare bits of a JP word, and CND where no condition is asked.
+pub(crate) fn jp_unused_bits(w: u32, unconditional: bool) -> bool
+    ensures { λ x. ⌜ x ≡ (not (eqb (jpFields w .spare) 0) || (unconditional && not (eqb (jpFields w .cnd) 0))) ⌝ }
+{
+    (word::bits(w, 3, 0) != 0) | (unconditional & (word::bits(w, 17, 13) != 0))
+}
+
 pub(crate) fn ldi_refusal(r: Registers, w: u32, rom: &[u16]) -> u8
     ensures { λ x. ⌜ x ≡ spec.ldiRefusal r (ldiFields w) (now (rom .entry)) ⌝ }
 {
+    if word::bits(w, 4, 4) != 0 {
+        return 18;
+    }
     if word::bits(w, 3, 0) == 11 {
         if cell_too_wide(r, rom) {
             return 7;

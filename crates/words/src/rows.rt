@@ -11,6 +11,7 @@ ghost use Rattle.words.specs.Load.{ldiWord};
 ghost use Rattle.words.specs.Word.{wordDone};
 use crate::outcomes::AfterWord;
 use crate::refusals::FIRST_RT;
+use crate::refusals::jp_unused_bits;
 use crate::refusals::ldi_refusal;
 use crate::refusals::op_refusal;
 use codes::Destination;
@@ -81,29 +82,40 @@ fn jump(r: Registers, na: u16) -> Registers
     q
 }
 
-// A JP word: a jump, a call, a jump on a condition, or none of these.
+// A JP word: a jump, a call, a jump on a condition, or none of these. NA is taken in each: held over the tests it would cost every word.
 fn jp_word(r: Registers, w: u32) -> AfterWord
     ensures { λ x. ⌜ ((ram : List ℕ) → outcome x ram ≡ jpWord r (jpFields w) ram) ⌝ }
 {
     let brch = word::bits(w, 20, 18);
-    let na = word::bits(w, 12, 4) as u16;
-    match brch {
-        2 => {
-            if flow::condition_holds(r, word::bits(w, 17, 13) as u8) {
-                return finish(jump(r, na));
-            }
-            finish(flow::step(r))
+    if brch == 4 {
+        if jp_unused_bits(w, true) {
+            return refuse(18, r);
         }
-        4 => finish(jump(r, na)),
-        5 => {
-            if Upd77p20::STACK <= r.depth {
-                return refuse(9, r);
-            }
-            let back = r.pc.next();
-            finish(jump(flow::push(r, back), na))
-        }
-        _ => refuse(5, r),
+        let na = word::bits(w, 12, 4) as u16;
+        return finish(jump(r, na));
     }
+    if brch == 5 {
+        if jp_unused_bits(w, true) {
+            return refuse(18, r);
+        }
+        if Upd77p20::STACK <= r.depth {
+            return refuse(9, r);
+        }
+        let na = word::bits(w, 12, 4) as u16;
+        let back = r.pc.next();
+        return finish(jump(flow::push(r, back), na));
+    }
+    if brch == 2 {
+        if jp_unused_bits(w, false) {
+            return refuse(18, r);
+        }
+        if flow::condition_holds(r, word::bits(w, 17, 13) as u8) {
+            let na = word::bits(w, 12, 4) as u16;
+            return finish(jump(r, na));
+        }
+        return finish(flow::step(r));
+    }
+    refuse(5, r)
 }
 
 // An LDI word.
