@@ -1,5 +1,5 @@
-//! A second, independent reading of the rules paper and of change request E3. Wide integers and plain code; it shares no line with the
-//! proved crates.
+//! A second, independent reading of the rules paper and of change requests E3 and E8. Wide integers and plain code; it shares no line
+//! with the proved crates.
 //!
 //! `event` is one call from outside, `step` one word, `take_apart` and `build` go between a word and its fields; `trial::event` is
 //! the same call on a machine with the trial desk's fault.

@@ -11,3 +11,5 @@ pub const STACK_EMPTY: u8 = 8;
 pub const STACK_FULL: u8 = 9;
 pub const NOTHING_TO_SEND: u8 = 10;
 pub const FIELD_TOO_WIDE: u8 = 11;
+/// Its place is after 5 and before 6.
+pub const UNUSED_BITS_SET: u8 = 18;

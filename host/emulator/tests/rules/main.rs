@@ -1,4 +1,4 @@
-//! What the rules paper says, with every expected value worked out by hand.
+//! What the rules paper and change requests E3 and E8 say, with every expected value worked out by hand.
 
 mod accumulators;
 mod alu;
@@ -24,4 +24,5 @@ mod sources;
 mod status_register;
 mod three_adds;
 mod trial_desk;
+mod unused_bits;
 mod words_and_fields;

@@ -1,6 +1,6 @@
-//! The lowest number that applies is given.
+//! The lowest number that applies is given, but 18 comes after 5 and before 6.
 
-use crate::assemble::{alu, dst, jp, op, psel, rt, src, Op};
+use crate::assemble::{alu, dst, jp, ldi, op, psel, rt, src, Op, CALL, JUMP};
 use crate::machine::{recognisable, DONE};
 use emulator::{event, Reply};
 
@@ -58,7 +58,8 @@ fn a_wide_word_before_all_that_its_low_bits_would_meet() {
     let mut machine = recognisable();
     machine.registers.depth = 0;
     machine.rom[0x1a7] = 8192;
-    for low in [jp(0, 0, 0), rt(Op { dst: dst::KLR, ..Op::default() }), rt(Op::default())] {
+    let low_bits = [jp(0, 0, 0), rt(Op { dst: dst::KLR, ..Op::default() }), rt(Op::default()), jp(JUMP, 1, 0), ldi(0, dst::KLR) | 0x10];
+    for low in low_bits {
         machine.clone().word_is_refused(1 << 23 | low, 4);
     }
 }
@@ -68,4 +69,50 @@ fn no_such_branch_even_at_depth_4() {
     let mut machine = recognisable();
     machine.registers.depth = 4;
     machine.word_is_refused(jp(0b111, 0, 0), 5);
+}
+
+#[test]
+fn a_length_a_register_and_a_value_before_unused_bits() {
+    let mut machine = recognisable();
+    machine.program.fill(jp(JUMP, 1, 0) | 1);
+    let mut shorter = machine.clone();
+    let reply = event(&mut shorter.registers, &shorter.program[1..], &shorter.rom, &mut shorter.ram, 0, 1);
+    assert_eq!((reply, &shorter), (Reply { number: 1, ..DONE }, &machine));
+
+    machine.clone().event_is_refused(0, 65536, 3);
+    machine.registers.rp = 512;
+    machine.event_is_refused(0, 1, 2);
+}
+
+/// Whatever its CND and its spare bits are, at every depth.
+#[test]
+fn no_such_branch_before_unused_bits() {
+    for brch in [0b000, 0b001, 0b011, 0b110, 0b111] {
+        for unused in (0..32).flat_map(|cnd| (0..16).map(move |spare| jp(0, cnd, 0) | spare)) {
+            for depth in [0, 4] {
+                let mut machine = recognisable();
+                machine.registers.depth = depth;
+                machine.word_is_refused(jp(brch, 0, 0x55) | unused, 5);
+            }
+        }
+    }
+}
+
+/// Of 6 to 9 a word with unused bits can meet 7, as an LDI, and 9, as a call: an OP or RT word has no unused bits.
+#[test]
+fn unused_bits_before_a_wide_cell() {
+    let mut machine = recognisable();
+    machine.rom[0x1a7] = 8192;
+    machine.clone().word_is_refused(ldi(0x1234, dst::KLR) | 0x10, 18);
+    machine.word_is_refused(ldi(0x1234, dst::KLR), 7);
+}
+
+#[test]
+fn unused_bits_before_a_full_stack() {
+    let mut machine = recognisable();
+    machine.registers.depth = 4;
+    for unused in [jp(CALL, 1, 0x55), jp(CALL, 31, 0x55), jp(CALL, 0, 0x55) | 1, jp(CALL, 0, 0x55) | 8, jp(CALL, 16, 0x55) | 2] {
+        machine.clone().word_is_refused(unused, 18);
+    }
+    machine.word_is_refused(jp(CALL, 0, 0x55), 9);
 }

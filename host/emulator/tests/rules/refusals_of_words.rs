@@ -10,8 +10,8 @@ fn refusal_4_a_word_of_2_to_the_23() {
         recognisable().word_is_refused(word, 4);
         assert_eq!(take_apart(word), Err(4));
     }
-    // The last word below is an LDI to MEM.
-    recognisable().word_changes((1 << 23) - 1, |m| {
+    // The last word below with its spare bit 0 is an LDI to MEM.
+    recognisable().word_changes((1 << 23) - 1 - 0x10, |m| {
         m.registers.pc = NEXT;
         m.ram[0x25] = 0xffff;
     });

@@ -1,6 +1,6 @@
 //! The trial desk differs from the rules in the time of DPH-M and in nothing else.
 
-use crate::assemble::{dst, op, rt, src, Op};
+use crate::assemble::{dst, jp, ldi, op, rt, src, Op, CALL, JUMP};
 use crate::fitting_registers::fitting_registers;
 use crate::machine::{recognisable, Machine, ACCEPTED, DONE, HERE, NEXT};
 use emulator::{trial, Reply};
@@ -75,6 +75,16 @@ fn a_refused_word_leaves_dp_as_it_was() {
     let mut before = recognisable();
     before.program[usize::from(HERE)] = word;
     assert_eq!(desk, before);
+}
+
+#[test]
+fn unused_bits_are_refused_on_both() {
+    for word in [jp(JUMP, 1, 0x80), jp(CALL, 0, 0x80) | 1, ldi(0x1234, dst::A) | 0x10] {
+        let (mut chip, mut desk) = (recognisable(), recognisable());
+        assert_eq!(chip.run_word(word), Reply { number: 18, ..DONE });
+        assert_eq!(run_on_trial_desk(&mut desk, word), Reply { number: 18, ..DONE });
+        assert_eq!(chip, desk);
+    }
 }
 
 #[test]
