@@ -1,8 +1,10 @@
-//! What the compared runs met: each code of each field in a word that finished, each condition both ways, each refusal, each kind of
-//! event answered, each answer to an interrupt. Something that was never met is a failure of the comparison.
+//! What the compared runs met: each code of each field in a word that finished, each condition both ways, each refusal, each field of
+//! unused bits that alone refused a word, each kind of event answered, each answer to an interrupt. Something that was never met is a
+//! failure of the comparison.
 
+use emulator::branch::{CALL, JUMP_ON_CONDITION};
 use emulator::event::INTERRUPT_EDGE;
-use emulator::refusal::STACK_FULL;
+use emulator::refusal::{STACK_FULL, UNUSED_BITS_SET};
 use emulator::status::EI;
 use emulator::{Registers, Word};
 
@@ -41,6 +43,8 @@ pub struct Coverage {
     loads: Field,
     returns: Field,
     refusals: Field,
+    // The field that alone was set where it is not used: spare bits and CND by BRCH, the spare bit of LDI.
+    unused: Field,
     kinds: Field,
     // What becomes of an interrupt: with EI 0, with EI 1, on a full stack.
     interrupts: Field,
@@ -63,13 +67,18 @@ impl Coverage {
             conditions: Field::new("condition and its outcome", 64),
             loads: Field::new("destination of LDI", 16),
             returns: Field::new("RT", 2),
-            refusals: Field::new("refusal", 11),
+            refusals: Field::new("refusal", 19),
+            unused: Field::new("unused bits (0, 1, 2 spare under 010, 100, 101; 3, 4 CND under 100, 101; 5 spare of LDI)", 6),
             kinds: Field::new("answered event", 8),
             interrupts: Field::new("answer to an interrupt (0 ignored, 1 accepted, 2 refused)", 3),
         };
         // Words with another BRCH are refused.
         for unknown in [0, 1, 3, 6, 7] {
             coverage.branches.met(unknown);
+        }
+        // No event is refused with these.
+        for other in 11..=17 {
+            coverage.refusals.met(other);
         }
         coverage
     }
@@ -90,11 +99,25 @@ impl Coverage {
                 self.branches.met(usize::from(f.brch));
                 let next = (before.pc + 1) % 512;
                 // A jump to the next word looks the same taken or not.
-                if f.brch == 2 && f.na != next {
+                if f.brch == JUMP_ON_CONDITION && f.na != next {
                     self.conditions.met(usize::from(f.cnd) * 2 + usize::from(after.pc != next));
                 }
             }
             Word::Ldi(f) => self.loads.met(usize::from(f.dst)),
+        }
+    }
+
+    /// A word that was refused.
+    pub fn refused(&mut self, word: &Word, number: u8) {
+        if number != UNUSED_BITS_SET {
+            return;
+        }
+        match word {
+            Word::Jp(f) if f.brch == JUMP_ON_CONDITION => self.unused.met(0),
+            Word::Jp(f) if f.cnd == 0 => self.unused.met(1 + usize::from(f.brch == CALL)),
+            Word::Jp(f) if f.spare == 0 => self.unused.met(3 + usize::from(f.brch == CALL)),
+            Word::Ldi(_) => self.unused.met(5),
+            _ => {}
         }
     }
 
@@ -126,6 +149,7 @@ impl Coverage {
             &self.loads,
             &self.returns,
             &self.refusals,
+            &self.unused,
             &self.kinds,
             &self.interrupts,
         ];

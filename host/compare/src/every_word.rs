@@ -2,6 +2,7 @@
 
 use crate::pair::Pair;
 use crate::states;
+use emulator::refusal::UNUSED_BITS_SET;
 use random::Random;
 
 /// The fields as the emulator names them.
@@ -84,16 +85,25 @@ fn any_fields(random: &mut Random) -> bemulatsho::Word {
     }
 }
 
-pub fn compare(seed: u64) -> Result<u64, String> {
+/// Words of 2^23 that 18 refuses, from the widths of their fields: docs/EVIDENCE.md, "Words with unused bits", has them one by one.
+const UNUSED_BITS: u64 = 2 * ((1 << 18) - (1 << 9)) + (1 << 14) * 15 + (1 << 20);
+
+/// Each word of 2^23; how many there are, and how many of them 18 refused.
+pub fn compare(seed: u64) -> Result<(u64, u64), String> {
     let mut random = Random::new(seed);
+    let mut unused_bits = 0;
     let registers = states::fitting_registers(&mut random);
     let mut pair = Pair::lent(registers, vec![0; emulator::WORDS], states::rom(&mut random), states::ram(&mut random));
     for word in 0..1 << 23 {
         pair.registers = states::fitting_registers(&mut random);
         let pc = usize::from(pair.registers.pc);
         pair.program[pc] = word;
-        pair.event(0, 1).map_err(|difference| difference.to_string())?;
+        let reply = pair.event(0, 1).map_err(|difference| difference.to_string())?;
+        unused_bits += u64::from(reply.number == UNUSED_BITS_SET);
         apart_and_together(word)?;
     }
-    Ok(1 << 23)
+    if unused_bits != UNUSED_BITS {
+        return Err(format!("{unused_bits} words of 2^23 were refused with 18: expected {UNUSED_BITS}"));
+    }
+    Ok((1 << 23, unused_bits))
 }

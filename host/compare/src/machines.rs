@@ -71,7 +71,8 @@ fn trace(coverage: &mut Coverage, pair: &Pair, words: u32) {
     for _ in 0..words {
         let before = registers;
         let Ok(word) = emulator::take_apart(pair.program[usize::from(before.pc)]) else { return };
-        if emulator::step(&mut registers, &pair.program, &pair.rom, &mut ram).is_err() {
+        if let Err(number) = emulator::step(&mut registers, &pair.program, &pair.rom, &mut ram) {
+            coverage.refused(&word, number);
             return;
         }
         coverage.word(&word, &before, &registers);
@@ -108,7 +109,7 @@ fn machine(seed: u64, coverage: &mut Coverage) -> Result<u64, Failure> {
 
 /// A refused word would be refused again: the caller may change its record between calls, and does.
 fn unstick(random: &mut Random, pair: &mut Pair, reply: &Reply) {
-    if (4..=9).contains(&reply.number) {
+    if matches!(reply.number, 4..=9 | 18) {
         let fresh = states::fitting_registers(random);
         pair.registers.pc = fresh.pc;
         pair.registers.depth = fresh.depth;

@@ -60,7 +60,8 @@ fn everything() -> Result<(), String> {
         report(compared, what);
     }
     random_machines(SEED, EVENTS)?;
-    report(every_word::compare(SEED)?, "words: each of 2^23 run from a random state, taken apart and built");
+    let (words, unused_bits) = every_word::compare(SEED)?;
+    report(words, &format!("words: each of 2^23 run from a random state, taken apart and built; {unused_bits} refused with 18"));
     report(every_word::compare_widths(SEED)?, "fields and words of any width, refusals 11 and 4 among them");
     for line in listings::run()? {
         println!("compare: {line}");
@@ -82,7 +83,7 @@ fn random_machines(seed: u64, events: u64) -> Result<(), String> {
     if !missing.is_empty() {
         return Err(format!("{done} events never met: {}", missing.join(", ")));
     }
-    let met = "every code, condition, refusal, kind and answer to an interrupt met";
+    let met = "every code, condition, refusal, field of unused bits, kind and answer to an interrupt met";
     report(done, &format!("events on random machines from seed {seed}, {met}"));
     Ok(())
 }

@@ -70,20 +70,27 @@ pub fn rom(random: &mut Random) -> Vec<u16> {
         .collect()
 }
 
-/// A word of 23 bits, of any row; one in two hundred is wider.
+/// CND and the spare bits of a JP word that jumps or calls on no condition, the spare bits of one that jumps on CND, the spare bit of LDI.
+const UNUSED_OF_JUMP: u32 = 0x3_e00f;
+const UNUSED_OF_CONDITIONAL: u32 = 0xf;
+const UNUSED_OF_LDI: u32 = 0x10;
+
+/// A word of 23 bits, of any row; one in two hundred is wider. In one word in twelve the unused bits are as they fall, else 0.
 fn word(random: &mut Random) -> u32 {
     let low = random.next() as u32 & 0x1f_ffff;
+    let worn = random.one_in(12);
+    let used = |bits: u32, unused: u32| if worn { bits } else { bits & !unused };
     match random.below(200) {
         0 => 0x80_0000 + random.below(0xff80_0000),
         // OP, mostly with a source, so that runs go on.
         1..=99 => low | (u32::from(low & 0xf0 == 0) << 4),
         // RT and calls are rarer than there is room on the stack.
         100..=114 => 0x20_0000 | low | (u32::from(low & 0xf0 == 0) << 4),
-        115..=129 => 0x40_0000 | 5 << 18 | low & 0x3_ffff,
-        130..=139 => 0x40_0000 | 4 << 18 | low & 0x3_ffff,
-        140..=164 => 0x40_0000 | 2 << 18 | low & 0x3_ffff,
+        115..=129 => 0x40_0000 | 5 << 18 | used(low & 0x3_ffff, UNUSED_OF_JUMP),
+        130..=139 => 0x40_0000 | 4 << 18 | used(low & 0x3_ffff, UNUSED_OF_JUMP),
+        140..=164 => 0x40_0000 | 2 << 18 | used(low & 0x3_ffff, UNUSED_OF_CONDITIONAL),
         165..=169 => 0x40_0000 | low,
-        170..=195 => 0x60_0000 | low,
+        170..=195 => 0x60_0000 | used(low, UNUSED_OF_LDI),
         _ => random.next() as u32 & 0x7f_ffff,
     }
 }
