@@ -58,8 +58,9 @@ extern "C" {
 /* ---- version */
 
 /* The version that this header describes. It goes up when a caller has to change.
-   2: an accepted interrupt has words 2 in its reply; in version 1 it had 0. */
-#define BEMULATSHO_VERSION 2u
+   2: an accepted interrupt has words 2 in its reply; in version 1 it had 0.
+   3: a word with unused bits set is refused with 18 when it runs; before, it ran. */
+#define BEMULATSHO_VERSION 3u
 
 /* The version of the library. Compare it with BEMULATSHO_VERSION once, at the start. */
 uint32_t bemulatsho_version(void);
@@ -77,7 +78,8 @@ uint32_t bemulatsho_version(void);
 /*
  * A program is an array of uint32_t, word n at place n, the word in the low 23 bits. A
  * data ROM is an array of uint16_t, the cell in the low 13 bits. A larger number may
- * stand in either; it is refused when it is used (refusals 4 and 7), and not before.
+ * stand in either; it is refused when it is used (refusals 4 and 7), and not before. So
+ * is a word in which bits are set that its row does not use (refusal 18).
  *
  * A RAM is an array of uint16_t, cell n at place n. What it holds at the start is the
  * caller's choice, all 0 or a preset: the manual does not say what the chip's holds at
@@ -206,10 +208,10 @@ struct bemulatsho_event {
  * The number of an answer: 0 done, else the refusal. It is one numbering with two names:
  * number in bemulatsho_reply, bemulatsho_loading, bemulatsho_record and
  * bemulatsho_writing, refusal in bemulatsho_taken_rows and bemulatsho_built. Each is
- * given exactly when its line says; where several apply, the lowest; of a text, that of
- * the first faulty record. An event call gives 0 to 10, bemulatsho_take_apart 0 or 4,
- * bemulatsho_build 0 or 11, a load 0, 1 or 12 to 16, bemulatsho_read_record 0 or 12 to
- * 14, bemulatsho_write_preset 0 or 1.
+ * given exactly when its line says; where several apply, the first of 1, 2, 3, 4, 5, 18,
+ * 6, 7, 8, 9, 10; of a text, that of the first faulty record. An event call gives 0 to 10
+ * or 18, bemulatsho_take_apart 0 or 4, bemulatsho_build 0 or 11, a load 0, 1 or 12 to 16,
+ * bemulatsho_read_record 0 or 12 to 14, bemulatsho_write_preset 0 or 1.
  */
 enum bemulatsho_number {
     /* done */
@@ -254,7 +256,11 @@ enum bemulatsho_number {
     BEMULATSHO_REFUSED_ADDRESS = 15,
     /* no end record or text after it, if only a line feed. Said after the last record, if
        no address is missing. */
-    BEMULATSHO_REFUSED_END = 16
+    BEMULATSHO_REFUSED_END = 16,
+    /* unused bits set in a fetched word. Words taken from an image for running must have
+       spare bits 0, and CND 0 under an unconditional jump or a call. They are taken apart
+       and built all the same. */
+    BEMULATSHO_REFUSED_UNUSED = 18
 };
 
 struct bemulatsho_reply {
@@ -360,15 +366,16 @@ struct bemulatsho_op_fields {
 struct bemulatsho_jp_fields {
     uint8_t brch;  /* D20-18, BRCH: 2 jump on CND, 4 jump, 5 call (pushes PC plus one, 0
                       from 511) */
-    uint8_t cnd;   /* D17-13, CND: the condition, not looked at by BRCH 4 and 5 */
+    uint8_t cnd;   /* D17-13, CND: the condition of BRCH 2. Not 0 under BRCH 4 or 5:
+                      refusal 18 when the word runs */
     uint16_t na;   /* D12-4, NA: the word to go to */
-    uint8_t spare; /* D3-0: not looked at when the word runs, but a field */
+    uint8_t spare; /* D3-0: not 0 under BRCH 2, 4 or 5: refusal 18 when the word runs */
 };
 
 /* The fields of an LDI word. */
 struct bemulatsho_ldi_fields {
     uint16_t id;   /* D20-5, ID: the constant, sent to DST as the bus */
-    uint8_t spare; /* D4: not looked at when the word runs, but a field */
+    uint8_t spare; /* D4: not 0: refusal 18 when the word runs */
     uint8_t dst;   /* D3-0, DST: as in an OP word */
 };
 

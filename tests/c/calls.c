@@ -1,6 +1,6 @@
 /*
  * Every function of the machine and of words, called from C11 and, by the same text, from C++17; the
- * numbers are those of the rules paper (01). The first check that fails ends the program with status 1.
+ * numbers are those of the rules (01 and 02). The first check that fails ends the program with status 1.
  */
 #include "bemulatsho.h"
 
@@ -33,6 +33,8 @@ static const char *name_of(uint8_t number)
         return "serial";
     case BEMULATSHO_REFUSED_FIELD:
         return "field";
+    case BEMULATSHO_REFUSED_UNUSED:
+        return "unused bits";
     default:
         return "no number of the list";
     }
@@ -175,7 +177,7 @@ static void check_refused(struct machine m, uint32_t kind, uint32_t value, unsig
 
 static void version(void)
 {
-    CHECK(bemulatsho_version() == 2);
+    CHECK(bemulatsho_version() == 3);
     CHECK(bemulatsho_version() == BEMULATSHO_VERSION);
 }
 
@@ -697,6 +699,50 @@ static void words_refused(void)
     give_back(m);
 }
 
+/* 18: unused bits set. Run, each is refused and changes nothing; taken apart and built it is the same word. */
+static void unused_bits(void)
+{
+    static const uint32_t words[] = {
+        0x501001, 0x501008, 0x502000, 0x520000, 0x53F00F, /* a jump: spare bits, CND, both */
+        0x540001, 0x548000,                               /* a call */
+        0x480002, 0x4BF004,                               /* a jump on CND: the spare bits alone */
+        0x624691, 0x7FFFFF,                               /* LDI: D4 */
+    };
+    struct machine m = lend_machine();
+    fill_registers(m.registers);
+    fill_ram(m);
+    for (size_t i = 0; i < sizeof words / sizeof *words; i++) {
+        m.program[m.registers->pc] = words[i];
+        REFUSED(m, BEMULATSHO_EVENT_RUN, 1, BEMULATSHO_REFUSED_UNUSED);
+        REFUSED(m, BEMULATSHO_EVENT_RUN, 65535, 18);
+        check_built_again(words[i], __LINE__);
+    }
+
+    /* after 4 and 5 */
+    m.program[m.registers->pc] = 0xD01001;
+    REFUSED(m, BEMULATSHO_EVENT_RUN, 1, 4);
+    m.program[m.registers->pc] = 0x402001;
+    REFUSED(m, BEMULATSHO_EVENT_RUN, 1, 5);
+
+    /* before 7: LDI to KLR at a cell of 8192; before 9: a call at depth 4 */
+    m.rom[m.registers->rp] = BEMULATSHO_CELL_LIMIT;
+    m.program[m.registers->pc] = 0x60001B;
+    REFUSED(m, BEMULATSHO_EVENT_RUN, 1, 18);
+    m.registers->depth = 4;
+    m.program[m.registers->pc] = 0x542000;
+    REFUSED(m, BEMULATSHO_EVENT_RUN, 1, 18);
+
+    /* the same words without them run, or meet what stands behind 18 */
+    m.program[m.registers->pc] = 0x540000;
+    REFUSED(m, BEMULATSHO_EVENT_RUN, 1, 9);
+    m.program[m.registers->pc] = 0x60000B;
+    REFUSED(m, BEMULATSHO_EVENT_RUN, 1, 7);
+    m.program[m.registers->pc] = 0x501000;
+    REPLY(call(m, BEMULATSHO_EVENT_RUN, 1), 0, 1, 0);
+    CHECK(m.registers->pc == 0x100);
+    give_back(m);
+}
+
 static void run_stopped(void)
 {
     /* LDI A 1234H, LDI MEM 5678H, then a word without a source: two words are done and stay done */
@@ -745,6 +791,7 @@ int main(void)
     registers_that_do_not_fit();
     events_not_allowed();
     words_refused();
+    unused_bits();
     run_stopped();
     printf("%u checks\n", checks);
     return 0;

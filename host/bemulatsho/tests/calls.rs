@@ -13,7 +13,7 @@ fn run(word: u32, registers: &mut Registers) -> Reply {
 
 #[test]
 fn a_fresh_machine_is_all_0() {
-    assert_eq!(version(), 2);
+    assert_eq!(version(), 3);
     assert_eq!(fresh_registers(), Registers::default());
 }
 
@@ -60,6 +60,17 @@ fn words_are_taken_apart_and_built() {
     assert_eq!(build(&load), Ok(0x624681));
     assert_eq!(build(&Word::Op(OpFields { psel: 4, ..OpFields::default() })), Err(11));
     assert_eq!(build(&Word::Rt(OpFields { alu: 5, psel: 2, ..OpFields::default() })), Ok(0x328000));
+}
+
+/// A jump with a spare bit and with CND, a jump on CND with a spare bit, LDI with its spare bit.
+#[test]
+fn words_with_unused_bits_are_taken_apart_and_built_but_not_run() {
+    for word in [0x501001, 0x502000, 0x482008, 0x624691] {
+        assert_eq!(take_apart(word).and_then(|fields| build(&fields)), Ok(word));
+        let mut registers = fresh_registers();
+        assert_eq!(run(word, &mut registers), Reply { number: 18, words: 0, value: 0 });
+        assert_eq!(registers, fresh_registers());
+    }
 }
 
 #[test]

@@ -4,7 +4,7 @@ use crate::fault::Fault;
 use crate::output::Output;
 
 /// The interface that this program was written for.
-const INTERFACE: u32 = 2;
+const INTERFACE: u32 = 3;
 
 pub fn command(arguments: &[String]) -> Result<(), Fault> {
     if let Some(argument) = arguments.first() {
