@@ -1,6 +1,6 @@
 //! `desk`: exit status 0 done, 1 a script or check failed, 2 bad use or bad input.
 
-use desk::commands::{check_track, convert, example, help, mix, preset, run, trace, version};
+use desk::commands::{check_image, check_track, convert, example, help, mix, preset, run, trace, version};
 use desk::fault::Fault;
 use desk::output::tell;
 use std::process::ExitCode;
@@ -24,6 +24,7 @@ fn command(arguments: &[String]) -> Result<(), Fault> {
         "run" => run::command(rest),
         "trace" => trace::command(rest),
         "check-track" => check_track::command(rest),
+        "check-image" => check_image::command(rest),
         "mix" => mix::command(rest),
         "preset" => preset::command(rest),
         "convert" => convert::command(rest),

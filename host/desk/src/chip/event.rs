@@ -64,6 +64,7 @@ pub fn meaning(number: u8) -> &'static str {
         14 => "record type",
         15 => "address outside, given twice or missing",
         16 => "no end record or text after it",
+        18 => "unused bits set",
         _ => "no such number",
     }
 }

@@ -29,9 +29,9 @@ const CONDITIONS: [&str; 32] = [
     "JDPL0", "JDPLF", "JNSIAK", "JSIAK", "JNSOAK", "JSOAK", "JNRQM", "JRQM",
 ];
 
-const JUMP_ON_CONDITION: u8 = 0b010;
-const JUMP: u8 = 0b100;
-const CALL: u8 = 0b101;
+pub const JUMP_ON_CONDITION: u8 = 0b010;
+pub const JUMP: u8 = 0b100;
+pub const CALL: u8 = 0b101;
 
 /// A word in mnemonics: its parts in the order that the manual recommends, then the remarks.
 pub fn line(word: u32) -> String {

@@ -10,6 +10,7 @@ desk: the uPD7720A / 77P20 in software, for the bench
   desk run SCRIPT             play a script and check what it expects
   desk trace SCRIPT           print each word as it finishes, and what changed
   desk check-track ..         was what the desk sent what the chip would have sent?
+  desk check-image FILE..     which words of a program would be refused, as those of a worn EPROM?
   desk mix SCRIPT.. --in WAV.. --out WAV
                               mix sound files by a program
   desk preset COMMAND ..      write, check, show and compare presets in Intel HEX
@@ -130,6 +131,28 @@ Example:
   $ desk check-track examples/trial/good.record
 ";
 
+const CHECK_IMAGE: &str = "\
+desk check-image FILE..
+
+Says which words of a program, an image in Intel HEX, the machine would refuse wherever it came to them: those of a
+worn EPROM are found on the bench, before they play.
+
+  4    the word is 2^23 or more: a bit above D22 is set
+  5    BRCH, D20-18 of a jump, is none of 010, 100, 101
+  18   bits are set that the word does not use: the spare bits D3-0 of a jump or D4 of an LDI, or CND, D17-13,
+       under JMP or CALL
+
+A line a word, with its address, the word, its mnemonics, the refusal and the bits at fault; then a line a file, good,
+faulty, refused (no image of a program) or unreadable, and a last line that counts them. Status 0 if all are
+good, 2 if one is unreadable, else 1. `-` is standard input, once.
+
+Good says nothing of a bit that changed one word that runs into another, and nothing of refusals 6 to 9: 6 is of
+the program as it was written, 7, 8 and 9 depend on what the machine holds.
+
+Example:
+  $ desk check-image examples/intel_hex/worn.hex
+";
+
 const MIX: &str = "\
 desk mix [--program FILE] [--data FILE] [--preset FILE] SCRIPT.. --in WAV.. --out WAV [--record FILE]
 
@@ -212,11 +235,12 @@ Example:
 ";
 
 /// The commands and their texts, the overview first.
-pub const TEXTS: [(&str, &str); 9] = [
+pub const TEXTS: [(&str, &str); 10] = [
     ("", OVERVIEW),
     ("run", RUN),
     ("trace", TRACE),
     ("check-track", CHECK_TRACK),
+    ("check-image", CHECK_IMAGE),
     ("mix", MIX),
     ("preset", PRESET),
     ("convert", CONVERT),

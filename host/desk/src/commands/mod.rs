@@ -1,10 +1,12 @@
 //! The commands, one file each, and how their arguments are read.
 
 pub mod arguments;
+pub mod check_image;
 pub mod check_track;
 pub mod convert;
 pub mod example;
 pub mod help;
+mod image_files;
 pub mod mix;
 pub mod preset;
 pub mod run;

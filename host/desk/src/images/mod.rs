@@ -1,5 +1,6 @@
 //! Images of the program, the data ROM and the RAM (a preset) in Intel HEX: filled whole by the proved loader, or refused with where and why.
 
+pub mod faulty;
 mod loaded;
 pub mod preset;
 mod refused;

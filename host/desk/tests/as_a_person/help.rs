@@ -13,7 +13,11 @@ fn examples(text: &str) -> Vec<String> {
 #[track_caller]
 fn succeeds(folder: &Path, line: &str) {
     let ran = desk_in(folder, line);
-    let expected = if line.starts_with("preset diff ") { (1, "desk: the presets differ\n") } else { (0, "") };
+    let expected = match line.split(' ').next() {
+        Some("preset") if line.starts_with("preset diff ") => (1, "desk: the presets differ\n"),
+        Some("check-image") => (1, "desk: the image is not good\n"),
+        _ => (0, ""),
+    };
     assert_eq!((ran.status, ran.told.as_str()), expected, "desk {line}");
     assert!(!ran.printed.is_empty(), "desk {line} prints nothing");
 }

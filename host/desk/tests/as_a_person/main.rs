@@ -1,5 +1,6 @@
 //! The built program as a person uses it: what it prints, what it tells on the standard error, its exit status and its files.
 
+mod check_image;
 mod check_track;
 mod closed_pipes;
 mod convert;

@@ -1,11 +1,11 @@
 //! `desk preset check`: says of each file whether it is a whole preset, and whether it is written as `desk` would write it.
 
-use super::file::{self, called};
+use super::file;
 use crate::commands::arguments::Arguments;
-use crate::commands::tally::{Subject, Tally};
+use crate::commands::image_files::{called, files, text};
+use crate::commands::tally::{self, Judged, Subject};
 use crate::fault::Fault;
 use crate::images::preset;
-use crate::output::print_lines;
 use std::path::Path;
 
 const USE: &str = "expected `desk preset check FILE..`, where one of them may be - for standard input";
@@ -16,37 +16,28 @@ const VERDICTS: [&str; 3] = ["good", "refused", "unreadable"];
 
 pub fn command(arguments: &[String]) -> Result<(), Fault> {
     let mut arguments = Arguments::new(USE, arguments);
-    let files = file::files(&mut arguments)?;
+    let files = files(&mut arguments)?;
     if files.is_empty() {
         return Err(arguments.bad("no preset"));
     }
-    let mut tally = Tally::new(PRESETS, VERDICTS);
-    let mut lines = Vec::new();
-    for file in files {
-        let (verdict, sentence) = check(file)?;
-        tally.count(verdict);
-        lines.push(format!("{}: {verdict}: {sentence}", called(file).display()));
-    }
-    lines.push(tally.to_string());
-    tally.ended(print_lines(&lines))
+    tally::each_file(PRESETS, VERDICTS, &files, check)
 }
 
-/// The verdict on a file, and what there is to say of it.
-fn check(file: &Path) -> Result<(&'static str, String), Fault> {
+fn check(file: &Path) -> Result<Judged, Fault> {
     let [good, refused, unreadable] = VERDICTS;
-    let text = match file::text(file) {
+    let text = match text(file) {
         Ok(text) => text,
-        Err(fault) => return Ok((unreadable, fault.to_string())),
+        Err(fault) => return Ok(Judged::told(unreadable, fault)),
     };
     let ram = match preset::load(called(file), &text) {
         Ok(ram) => ram,
-        Err(fault) => return Ok((refused, fault.to_string())),
+        Err(fault) => return Ok(Judged::told(refused, fault)),
     };
     let otherwise = match first_other_line(&text, preset::written(&ram)?.as_bytes()) {
         Some(line) => format!("; desk would write it otherwise, from line {line} on"),
         None => String::new(),
     };
-    Ok((good, format!("{} cells, {} not 0{otherwise}", ram.len(), file::used(&ram))))
+    Ok(Judged::told(good, format!("{} cells, {} not 0{otherwise}", ram.len(), file::used(&ram))))
 }
 
 /// The first line, counted from 1, in which two texts differ.

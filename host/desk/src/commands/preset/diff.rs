@@ -1,8 +1,9 @@
 //! `desk preset diff`: the cells in which two presets differ.
 
-use super::file::{self, called};
+use super::file;
 use crate::chip::ram::{self, Ram};
 use crate::commands::arguments::Arguments;
+use crate::commands::image_files::{called, files};
 use crate::fault::Fault;
 use crate::numbers;
 use crate::output::print_lines;
@@ -12,7 +13,7 @@ const USE: &str = "expected `desk preset diff A B`, where one of them may be - f
 
 pub fn command(arguments: &[String]) -> Result<(), Fault> {
     let mut arguments = Arguments::new(USE, arguments);
-    let [one, other] = file::files(&mut arguments)?[..] else { return Err(arguments.bad("two presets")) };
+    let [one, other] = files(&mut arguments)?[..] else { return Err(arguments.bad("two presets")) };
     let mut lines = differences((one, &file::read(one)?), (other, &file::read(other)?));
     let differ = lines.len();
     lines.push(counted(differ));

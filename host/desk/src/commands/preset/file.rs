@@ -1,35 +1,10 @@
-//! Presets on the command line: files, of which one may be standard input.
+//! A preset from its file, and how much of it is used.
 
 use crate::chip::ram::Ram;
-use crate::commands::arguments::Arguments;
+use crate::commands::image_files::{called, text};
 use crate::fault::Fault;
-use crate::files::is_standard;
-use crate::images::{self, preset};
-use std::fs::File;
-use std::io;
+use crate::images::preset;
 use std::path::Path;
-
-/// The presets of a command that has no options.
-pub fn files<'a>(arguments: &mut Arguments<'a>) -> Result<Vec<&'a Path>, Fault> {
-    let files: Vec<&Path> = arguments.only_files()?.into_iter().map(Path::new).collect();
-    arguments.standard_input_once(files.iter().copied())?;
-    Ok(files)
-}
-
-/// What a file is called where something is told of it.
-pub fn called(file: &Path) -> &Path {
-    match is_standard(file) {
-        true => Path::new("standard input"),
-        false => file,
-    }
-}
-
-pub fn text(file: &Path) -> Result<Vec<u8>, Fault> {
-    if is_standard(file) {
-        return images::text(called(file), io::stdin());
-    }
-    images::text(file, File::open(file).map_err(|error| Fault::of_file(file, "read", &error))?)
-}
 
 pub fn read(file: &Path) -> Result<Ram, Fault> {
     preset::load(called(file), &text(file)?)

@@ -3,6 +3,7 @@
 use super::file;
 use crate::chip::ram::{self, Ram};
 use crate::commands::arguments::Arguments;
+use crate::commands::image_files::files;
 use crate::fault::Fault;
 use crate::output::print_lines;
 
@@ -10,7 +11,7 @@ const USE: &str = "expected `desk preset show FILE`, where - is standard input";
 
 pub fn command(arguments: &[String]) -> Result<(), Fault> {
     let mut arguments = Arguments::new(USE, arguments);
-    let [preset] = file::files(&mut arguments)?[..] else { return Err(arguments.bad("one preset")) };
+    let [preset] = files(&mut arguments)?[..] else { return Err(arguments.bad("one preset")) };
     print_lines(&table(&file::read(preset)?))
 }
 

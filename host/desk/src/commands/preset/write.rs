@@ -3,6 +3,7 @@
 use super::file;
 use crate::chip::ram::Ram;
 use crate::commands::arguments::{Argument, Arguments};
+use crate::commands::image_files::called;
 use crate::commands::script::{self, Script, Statements};
 use crate::fault::Fault;
 use crate::files::{self, is_standard};
@@ -31,7 +32,7 @@ pub fn command(arguments: &[String]) -> Result<(), Fault> {
     let Script { statements, files } =
         script::checked(script, &images, |statement| has += u64::from(matches!(statement.action, Action::Event(_))))?;
     if let Some(events) = events.filter(|events| *events > has) {
-        let (script, has) = (file::called(Path::new(script)).display(), counted(has as usize, "event"));
+        let (script, has) = (called(Path::new(script)).display(), counted(has as usize, "event"));
         return Err(Fault::bad(format!("--events {events}: {script} has {has}: expected no more than that")));
     }
     if !is_standard(out) {

@@ -8,7 +8,9 @@ use desk::scripts::reader::Reader;
 use desk::tracks::prepared::prepared;
 use std::fs;
 
-const FILES: [&str; 4] = ["mixing/preset.desk", "intel_hex/mixing.hex", "intel_hex/data.hex", "intel_hex/mixing_from_hex.desk"];
+const FILES: [&str; 4] = ["mixing/preset.desk", "intel_hex/mixing.hex", "intel_hex/data.hex", "intel_hex/worn.hex"];
+
+const SCRIPTS: [&str; 2] = ["intel_hex/mixing_from_hex.desk", "intel_hex/worn.desk"];
 
 #[test]
 fn the_words_of_the_image_are_those_of_the_mixing_program() {
@@ -28,13 +30,23 @@ fn the_script_holds() {
     assert_eq!((ran.status, ran.told.as_str(), ran.printed.matches("out: 0 done, value ").count()), (0, "", 2), "{ran:?}");
 }
 
+/// Each faulty word of the worn image is refused where the machine comes to it, and mended the mix is what it was.
 #[test]
-fn every_expectation_of_the_script_is_held() {
+fn the_worn_program_is_refused_word_by_word() {
+    let ran = desk_in(&repository(), "run examples/intel_hex/worn.desk");
+    assert_eq!((ran.status, ran.told.as_str()), (0, ""), "{ran:?}");
+    for (refusal, times) in [(": 5 BRCH", 2), (": 4 the word", 1), (": 18 unused bits set", 2), ("out: 0 done, value 0810H", 1)] {
+        assert_eq!(ran.printed.matches(refusal).count(), times, "{refusal}: {ran:?}");
+    }
+}
+
+#[test]
+fn every_expectation_of_the_scripts_is_held() {
     let folder = Folder::new();
-    for name in FILES {
+    for name in FILES.iter().chain(&SCRIPTS) {
         folder.write(name, fs::read(examples().join(name)).expect("an example"));
     }
-    every_expectation_is_held(&folder, FILES[3]);
+    SCRIPTS.iter().for_each(|script| every_expectation_is_held(&folder, script));
 }
 
 /// By the image the same track is mixed, and is checked as that.
