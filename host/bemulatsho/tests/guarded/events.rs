@@ -34,6 +34,9 @@ fn record(random: &mut Random, fits: bool) -> Registers {
     }
 }
 
+/// Bits of a word that may be 1: all, those of 23 bits, and those that a jump or a call on no condition may have.
+const BITS: [u32; 8] = [u32::MAX, 0x7f_ffff, 0x7f_ffff, 0x7f_ffff, 0x7f_ffff, 0x7c_1ff0, 0x7c_1ff0, 0x7c_1ff0];
+
 fn nothing_outside(guard: Guard) {
     let mut random = Random::new(0x7720);
     let (mut records, mut programs, mut roms, mut rams) = (Guarded::new(), Guarded::new(), Guarded::new(), Guarded::new());
@@ -46,7 +49,7 @@ fn nothing_outside(guard: Guard) {
         let ram = rams.slice::<u16>(guard, ram_cells);
         for _ in 0..8 {
             if let Some(word) = program.get_mut(random.place(words)) {
-                *word = random.next() as u32 & if random.one_in(16) { u32::MAX } else { 0x7f_ffff };
+                *word = random.next() as u32 & random.pick(&BITS);
             }
             if let Some(cell) = rom.get_mut(random.place(cells)) {
                 *cell = random.word();
@@ -59,7 +62,7 @@ fn nothing_outside(guard: Guard) {
         *registers = record(&mut random, turn % 4 != 1);
         let (kind, value) = (random.below(9), random.below(40));
         let reply = event(registers, program, rom, ram, kind, if kind == 0 || kind == 2 || kind == 4 { value } else { 0 });
-        assert!(reply.number <= 10);
+        assert!(matches!(reply.number, 0..=10 | 18));
         assert!(reply.number == 0 || reply.value == 0);
     }
 }

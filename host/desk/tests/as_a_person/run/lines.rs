@@ -147,7 +147,7 @@ fn an_address_that_two_scripts_give_is_refused_with_both_places() {
 #[test]
 fn a_patch_goes_over_what_was_given_before() {
     let text =
-        "program 0: 624681H 000001H\nram 0: 1 2 3\nrun 1\nexpect A 1234H\npatch program 1: 6FFFF1H\npatch ram 1: 9\npatch ram 1: 8\n\
+        "program 0: 624681H 000001H\nram 0: 1 2 3\nrun 1\nexpect A 1234H\npatch program 1: 6FFFE1H\npatch ram 1: 9\npatch ram 1: 8\n\
                 run 1\nexpect A 7FFFH\nexpect ram 1 8\nexpect ram 2 3\n";
     succeeds(text, "run 1: 0 done, 1 word\nrun 1: 0 done, 1 word\n");
 }
