@@ -1,8 +1,7 @@
 //! `desk check-image`: the words of a program that the machine would refuse wherever it came to them, as a worn EPROM gives them.
 
-use crate::commands::arguments::Arguments;
-use crate::commands::image_files::{called, files, text};
-use crate::commands::tally::{self, Judged, Subject};
+use crate::commands::checked_files::{self, Judged};
+use crate::commands::tally::Subject;
 use crate::fault::Fault;
 use crate::images::{self, Image};
 use std::path::Path;
@@ -14,21 +13,12 @@ const IMAGES: Subject = Subject { name: "image", is_not_good: "is not good", are
 const VERDICTS: [&str; 4] = ["good", "faulty", "refused", "unreadable"];
 
 pub fn command(arguments: &[String]) -> Result<(), Fault> {
-    let mut arguments = Arguments::new(USE, arguments);
-    let files = files(&mut arguments)?;
-    if files.is_empty() {
-        return Err(arguments.bad("no image"));
-    }
-    tally::each_file(IMAGES, VERDICTS, &files, check)
+    checked_files::each(USE, arguments, IMAGES, VERDICTS, check)
 }
 
-fn check(file: &Path) -> Result<Judged, Fault> {
-    let [good, faulty, refused, unreadable] = VERDICTS;
-    let text = match text(file) {
-        Ok(text) => text,
-        Err(fault) => return Ok(Judged::told(unreadable, fault)),
-    };
-    let program = match images::load(Image::Program, called(file), &text) {
+fn check(file: &Path, text: &[u8]) -> Result<Judged, Fault> {
+    let [good, faulty, refused, _] = VERDICTS;
+    let program = match images::load(Image::Program, file, text) {
         Ok(program) => program,
         Err(fault) => return Ok(Judged::told(refused, fault)),
     };

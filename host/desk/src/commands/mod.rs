@@ -3,6 +3,7 @@
 pub mod arguments;
 pub mod check_image;
 pub mod check_track;
+mod checked_files;
 pub mod convert;
 pub mod example;
 pub mod help;

@@ -1,11 +1,9 @@
 //! How many of what was checked came out how: the last line of a check, and its end.
 
-use crate::commands::image_files::called;
 use crate::fault::Fault;
 use crate::numbers::counted;
-use crate::output::{print_lines, tell};
+use crate::output::tell;
 use std::fmt;
-use std::path::Path;
 
 /// What is checked, and what is said of one and of several that did not come out well.
 #[derive(Clone, Copy)]
@@ -58,39 +56,6 @@ impl<const VERDICTS: usize> Tally<VERDICTS> {
         };
         Err(if unreadable > 0 { Fault::bad(message) } else { Fault::failed(message) })
     }
-}
-
-/// The verdict on a file, what there is to say of it, and lines to print before.
-pub struct Judged {
-    pub verdict: &'static str,
-    pub sentence: String,
-    pub lines: Vec<String>,
-}
-
-impl Judged {
-    pub fn told(verdict: &'static str, sentence: impl ToString) -> Judged {
-        Judged { verdict, sentence: sentence.to_string(), lines: Vec::new() }
-    }
-}
-
-/// Judges one file after another: a line a file, and a last line that counts them.
-pub fn each_file<const VERDICTS: usize>(
-    subject: Subject,
-    verdicts: [&'static str; VERDICTS],
-    files: &[&Path],
-    judge: impl Fn(&Path) -> Result<Judged, Fault>,
-) -> Result<(), Fault> {
-    let mut tally = Tally::new(subject, verdicts);
-    let mut printed = Vec::new();
-    for file in files {
-        let Judged { verdict, sentence, lines } = judge(file)?;
-        let name = called(file).display();
-        tally.count(verdict);
-        printed.extend(lines.iter().map(|line| format!("{name}: {line}")));
-        printed.push(format!("{name}: {verdict}: {sentence}"));
-    }
-    printed.push(tally.to_string());
-    tally.ended(print_lines(&printed))
 }
 
 impl<const VERDICTS: usize> fmt::Display for Tally<VERDICTS> {

@@ -1,9 +1,8 @@
 //! `desk preset check`: says of each file whether it is a whole preset, and whether it is written as `desk` would write it.
 
 use super::file;
-use crate::commands::arguments::Arguments;
-use crate::commands::image_files::{called, files, text};
-use crate::commands::tally::{self, Judged, Subject};
+use crate::commands::checked_files::{self, Judged};
+use crate::commands::tally::Subject;
 use crate::fault::Fault;
 use crate::images::preset;
 use std::path::Path;
@@ -15,25 +14,16 @@ const PRESETS: Subject = Subject { name: "preset", is_not_good: "is not good", a
 const VERDICTS: [&str; 3] = ["good", "refused", "unreadable"];
 
 pub fn command(arguments: &[String]) -> Result<(), Fault> {
-    let mut arguments = Arguments::new(USE, arguments);
-    let files = files(&mut arguments)?;
-    if files.is_empty() {
-        return Err(arguments.bad("no preset"));
-    }
-    tally::each_file(PRESETS, VERDICTS, &files, check)
+    checked_files::each(USE, arguments, PRESETS, VERDICTS, check)
 }
 
-fn check(file: &Path) -> Result<Judged, Fault> {
-    let [good, refused, unreadable] = VERDICTS;
-    let text = match text(file) {
-        Ok(text) => text,
-        Err(fault) => return Ok(Judged::told(unreadable, fault)),
-    };
-    let ram = match preset::load(called(file), &text) {
+fn check(file: &Path, text: &[u8]) -> Result<Judged, Fault> {
+    let [good, refused, _] = VERDICTS;
+    let ram = match preset::load(file, text) {
         Ok(ram) => ram,
         Err(fault) => return Ok(Judged::told(refused, fault)),
     };
-    let otherwise = match first_other_line(&text, preset::written(&ram)?.as_bytes()) {
+    let otherwise = match first_other_line(text, preset::written(&ram)?.as_bytes()) {
         Some(line) => format!("; desk would write it otherwise, from line {line} on"),
         None => String::new(),
     };
