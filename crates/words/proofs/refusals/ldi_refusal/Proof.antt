@@ -15,15 +15,21 @@ returns c = rw (ne-eqb (bits (c .before .before .before .args .w) 4 4) 0 (λ e. 
 
 returns-2 : tie.Need-returns-2
 unfolding ldiRefusal
-returns-2 c = rw (eq-eqb (bits (c .before .before .before .before .before .before .before .args .w) 4 4) 0 (omega arith), eq-eqb (bits (c .before .before .before .before .before .before .before .args .w) 3 0) 11 (omega arith), sym (c .before .cell-too-wide .ensures) ∙ c .if3 .taken)
+returns-2 c =
+    let w = c .before .before .before .before .before .before .before .args .w in
+    rw (eq-eqb (bits w 4 4) 0 (omega arith), eq-eqb (bits w 3 0) 11 (omega arith), sym (c .before .cell-too-wide .ensures) ∙ c .if3 .taken)
 
 returns-3 : tie.Need-returns-3
 unfolding ldiRefusal
-returns-3 c = rw (eq-eqb (bits (c .before .before .before .before .before .before .before .args .w) 4 4) 0 (omega arith), eq-eqb (bits (c .before .before .before .before .before .before .before .args .w) 3 0) 11 (omega arith), sym (c .before .cell-too-wide .ensures) ∙ c .if3 .left)
+returns-3 c =
+    let w = c .before .before .before .before .before .before .before .args .w in
+    rw (eq-eqb (bits w 4 4) 0 (omega arith), eq-eqb (bits w 3 0) 11 (omega arith), sym (c .before .cell-too-wide .ensures) ∙ c .if3 .left)
 
 returns-4 : tie.Need-returns-4
 unfolding ldiRefusal
-returns-4 c = rw (eq-eqb (bits (c .before .before .before .before .before .args .w) 4 4) 0 (omega arith), ne-eqb (bits (c .before .before .before .before .before .args .w) 3 0) 11 (λ e. omega (arith, c .if2 .left)))
+returns-4 c =
+    let w = c .before .before .before .before .before .args .w in
+    rw (eq-eqb (bits w 4 4) 0 (omega arith), ne-eqb (bits w 3 0) 11 (λ e. omega (arith, c .if2 .left)))
 
 pub ldi-refusal-spec : {M : Type 1} → statement M
 ldi-refusal-spec =
