@@ -3,9 +3,10 @@
 use Prim.Native.Nat.{ℕ, zero, suc, _+_, _-_, _*_, _/_, _%_, _^_, _<_}
 use native.Mathlib.Omega.{arith}
 use native.Mathlib.Nat.{mod-lt}
-use mathlib.Core.Path.{_≡_}
+use mathlib.Core.Path.{_≡_, refl}
+use mathlib.Core.Bool.{Bool, true, false, cond}
 use lib.Bits.{bitXor, xor-lt, xor-zero-r}
-use Rattle.device.specs.Device.{Device}
+use Rattle.device.specs.Device.{Device, chip}
 use Rattle.device.specs.Pointers.{nextAddress, romPointerDown, lowAfter, ramPointerMoved, ramPointerOf, romPointerOf}
 use Rattle.device.specs.declared.pointers.InstructionAddress.{InstructionAddress}
 use Rattle.device.specs.declared.pointers.RamPointer.{RamPointer}
@@ -44,3 +45,30 @@ ramPointerMoved-still dp = λ i. record { 0 = same i }
   where
     same : bitXor (dp .0 / 16) 0 * 16 + dp .0 % 16 ≡ dp .0
     same = rw (xor-zero-r (dp .0 / 16)) (omega arith)
+
+-- ---- the sizes of either chip
+
+-- DPH-M has three bits, or four, and names one of so many rows
+abbrev pub rowBits : Bool → ℕ
+rowBits large = cond large 4 3
+
+pub ram-rows : (large : Bool) → chip large .ram ≡ 2 ^ rowBits large * 16
+ram-rows true = refl
+ram-rows false = refl
+
+-- 100H is an instruction word
+pub words-some : (large : Bool) → 256 < chip large .words
+words-some true = omega arith
+words-some false = omega arith
+
+pub cells-some : (large : Bool) → 0 < chip large .cells
+cells-some true = omega arith
+cells-some false = omega arith
+
+pub ram-some : (large : Bool) → 0 < chip large .ram
+ram-some true = omega arith
+ram-some false = omega arith
+
+pub stack-four : (large : Bool) → chip large .stack ≡ 4
+stack-four true = refl
+stack-four false = refl

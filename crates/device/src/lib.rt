@@ -1,4 +1,4 @@
-// The chip: its sizes, its three pointers, its register record.
+// The chips: their sizes, their three pointers, their register record.
 mod lent;
 mod pointers;
 mod registers;
@@ -10,4 +10,6 @@ pub use pointers::RamPointer;
 pub use pointers::RomPointer;
 pub use registers::BothFlags;
 pub use registers::Registers;
+pub use sizes::Chip;
+pub use sizes::Upd77c25;
 pub use sizes::Upd77p20;

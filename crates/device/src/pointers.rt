@@ -1,15 +1,17 @@
 // Three pointers of three types: none can be taken for another. Each is held wider than the chip does, so that "too wide" can be said.
 ghost use mathlib.Core.Path.{_≡_};
-ghost use Rattle.device.specs.Device.{upd77p20};
+ghost use Rattle.device.specs.Device.{chip};
 ghost use Rattle.device.specs.Lent.{wordAt};
 ghost use Rattle.device.specs.Pointers.{addressFits, ramPointerFits, romPointerFits, nextAddress, romPointerDown, lowAfter, ramPointerMoved, ramPointerOf, romPointerOf};
+use crate::sizes::Chip;
+use crate::sizes::Upd77c25;
 use crate::sizes::Upd77p20;
 
 // Counts instruction words: PC, a stack cell.
 #[repr(C)]
 pub struct InstructionAddress(pub u16);
 
-// Points at a RAM cell: DP, a row in bits 6 to 4 and a place in it.
+// Points at a RAM cell: DP, a row from bit 4 up and a place in it.
 #[repr(C)]
 pub struct RamPointer(pub u16);
 
@@ -18,17 +20,22 @@ pub struct RamPointer(pub u16);
 pub struct RomPointer(pub u16);
 
 impl InstructionAddress {
-    pub fn fits(self) -> bool
-        ensures { λ r. ⌜ r ≡ addressFits upd77p20 self ⌝ }
+    pub fn fits(self, large: bool) -> bool
+        ensures { λ r. ⌜ r ≡ addressFits (chip large) self ⌝ }
     {
-        self.0 < Upd77p20::WORDS
+        self.0 < Chip::words(large)
     }
 
     // One word on; the last goes to 0.
-    pub fn next(self) -> InstructionAddress
-        ensures { λ r. ⌜ r ≡ nextAddress upd77p20 self ⌝ }
+    pub fn next(self, large: bool) -> InstructionAddress
+        ensures { λ r. ⌜ r ≡ nextAddress (chip large) self ⌝ }
     {
-        InstructionAddress(std::num::wrapping_add_u16(self.0, 1) % Upd77p20::WORDS)
+        let on = std::num::wrapping_add_u16(self.0, 1);
+        if large {
+            InstructionAddress(on % Upd77c25::WORDS)
+        } else {
+            InstructionAddress(on % Upd77p20::WORDS)
+        }
     }
 
     // The word there; 0 beyond the program's end.
@@ -41,24 +48,32 @@ impl InstructionAddress {
 }
 
 impl RomPointer {
-    pub fn fits(self) -> bool
-        ensures { λ r. ⌜ r ≡ romPointerFits upd77p20 self ⌝ }
+    pub fn fits(self, large: bool) -> bool
+        ensures { λ r. ⌜ r ≡ romPointerFits (chip large) self ⌝ }
     {
-        self.0 < Upd77p20::CELLS
+        self.0 < Chip::cells(large)
     }
 
     // The low bits of a bus value.
-    pub fn of_bus(bus: u16) -> RomPointer
-        ensures { λ r. ⌜ r ≡ romPointerOf upd77p20 bus ⌝ }
+    pub fn of_bus(large: bool, bus: u16) -> RomPointer
+        ensures { λ r. ⌜ r ≡ romPointerOf (chip large) bus ⌝ }
     {
-        RomPointer(bus % Upd77p20::CELLS)
+        if large {
+            RomPointer(bus % Upd77c25::CELLS)
+        } else {
+            RomPointer(bus % Upd77p20::CELLS)
+        }
     }
 
     // One cell down; 0 goes to the last.
-    pub fn down(self) -> RomPointer
-        ensures { λ r. ⌜ r ≡ romPointerDown upd77p20 self ⌝ }
+    pub fn down(self, large: bool) -> RomPointer
+        ensures { λ r. ⌜ r ≡ romPointerDown (chip large) self ⌝ }
     {
-        RomPointer(std::num::wrapping_add_u16(self.0, Upd77p20::CELLS - 1) % Upd77p20::CELLS)
+        if large {
+            RomPointer(std::num::wrapping_add_u16(self.0, Upd77c25::CELLS - 1) % Upd77c25::CELLS)
+        } else {
+            RomPointer(std::num::wrapping_add_u16(self.0, Upd77p20::CELLS - 1) % Upd77p20::CELLS)
+        }
     }
 }
 
@@ -76,17 +91,21 @@ fn low_after(dpl: u8, low: u16) -> u16
 }
 
 impl RamPointer {
-    pub fn fits(self) -> bool
-        ensures { λ r. ⌜ r ≡ ramPointerFits upd77p20 self ⌝ }
+    pub fn fits(self, large: bool) -> bool
+        ensures { λ r. ⌜ r ≡ ramPointerFits (chip large) self ⌝ }
     {
-        self.0 < Upd77p20::RAM
+        self.0 < Chip::ram(large)
     }
 
     // The low bits of a bus value.
-    pub fn of_bus(bus: u16) -> RamPointer
-        ensures { λ r. ⌜ r ≡ ramPointerOf upd77p20 bus ⌝ }
+    pub fn of_bus(large: bool, bus: u16) -> RamPointer
+        ensures { λ r. ⌜ r ≡ ramPointerOf (chip large) bus ⌝ }
     {
-        RamPointer(bus % Upd77p20::RAM)
+        if large {
+            RamPointer(bus % Upd77c25::RAM)
+        } else {
+            RamPointer(bus % Upd77p20::RAM)
+        }
     }
 
     // DPL for the place in the row, DPH-M for the row.

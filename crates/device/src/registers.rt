@@ -1,11 +1,11 @@
-// The register record: every register of 01, and no more.
+// The register record: every register of 01, and no more. The uPD77C25 has one register besides, TRB, which stands beside the record.
 ghost use mathlib.Core.Path.{_≡_};
-ghost use Rattle.device.specs.Device.{upd77p20};
+ghost use Rattle.device.specs.Device.{chip};
 ghost use Rattle.device.specs.Registers.{freshRegisters, registersFit, clearFlags};
 use crate::pointers::InstructionAddress;
 use crate::pointers::RamPointer;
 use crate::pointers::RomPointer;
-use crate::sizes::Upd77p20;
+use crate::sizes::Chip;
 use alu::Flags;
 
 // The six flags of A, and again of B.
@@ -54,7 +54,7 @@ fn clear_flags() -> Flags
     }
 }
 
-impl Upd77p20 {
+impl Chip {
     // A machine that has run nothing.
     pub fn fresh_registers() -> Registers
         ensures { λ r. ⌜ r ≡ freshRegisters ⌝ }
@@ -92,17 +92,17 @@ impl Upd77p20 {
 
 impl Registers {
     // Whether every register holds what the chip's could.
-    pub fn fit(self) -> bool
-        ensures { λ r. ⌜ r ≡ registersFit upd77p20 self ⌝ }
+    pub fn fit(self, large: bool) -> bool
+        ensures { λ r. ⌜ r ≡ registersFit (chip large) self ⌝ }
     {
-        self.pc.fits()
-            & self.stack0.fits()
-            & self.stack1.fits()
-            & self.stack2.fits()
-            & self.stack3.fits()
-            & self.dp.fits()
-            & self.rp.fits()
-            & (self.depth <= Upd77p20::STACK)
+        self.pc.fits(large)
+            & self.stack0.fits(large)
+            & self.stack1.fits(large)
+            & self.stack2.fits(large)
+            & self.stack3.fits(large)
+            & self.dp.fits(large)
+            & self.rp.fits(large)
+            & (self.depth <= Chip::stack(large))
             & (self.sr / 4 % 32 == 0)
     }
 }

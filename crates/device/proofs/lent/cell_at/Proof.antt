@@ -11,5 +11,4 @@ returns-2 : tie.Need-returns-2
 returns-2 c = sym (List·getD-eq-default (now (c .before .args .list)) 0 {n = c .before .args .at} (c .if1 .left))
 
 pub cell-at-spec : {M : Type 1} → statement M
-cell-at-spec =
-    tie.close (tie.spec (λ c. search needs) (λ c. search needs) (λ c. search needs) returns-2)
+cell-at-spec = tie.close (tie.spec (λ c. search needs) (λ c. search needs) (λ c. search needs) returns-2)

@@ -9,16 +9,17 @@ returns : tie.Need-returns
 unfolding registersFit
 returns c =
     rw (
-      c .before .before .fits8 .ensures,
-      c .before .before .before .fits7 .ensures,
-      c .before .before .before .before .fits6 .ensures,
-      c .before .before .before .before .before .fits5 .ensures,
-      c .before .before .before .before .before .before .fits4 .ensures,
-      c .before .before .before .before .before .before .before .fits3 .ensures,
-      c .before .before .before .before .before .before .before .before .fits2 .ensures,
+      c .before .before .stack .ensures,
+      c .before .before .before .fits8 .ensures,
+      c .before .before .before .before .fits7 .ensures,
+      c .before .before .before .before .before .fits6 .ensures,
+      c .before .before .before .before .before .before .fits5 .ensures,
+      c .before .before .before .before .before .before .before .fits4 .ensures,
+      c .before .before .before .before .before .before .before .before .fits3 .ensures,
+      c .before .before .before .before .before .before .before .before .before .fits2 .ensures,
     )
 
 pub fit-spec : {M : Type 1} → statement M
 fit-spec =
     tie.close (tie.spec (λ c κs. search needs) (λ c κs. search needs) (λ c κs. search needs) (λ c κs. search needs)
-    (λ c κs. search needs) (λ c κs. search needs) (λ c κs. search needs) returns)
+    (λ c κs. search needs) (λ c κs. search needs) (λ c κs. search needs) (λ c κs. search needs) returns)

@@ -2,8 +2,8 @@
 -- Assumes nothing.
 use borrow.Author.Needs.{needs}
 use Rattle.device.specs.Registers.{freshRegisters}
-use Rattle.device.proofs.sizes.Upd77p20.fresh_registers.Statement.{statement}
-use Rattle.device.proofs.sizes.Upd77p20.fresh_registers.Tie as tie
+use Rattle.device.proofs.sizes.Chip.fresh_registers.Statement.{statement}
+use Rattle.device.proofs.sizes.Chip.fresh_registers.Tie as tie
 
 returns : tie.Need-returns
 unfolding freshRegisters

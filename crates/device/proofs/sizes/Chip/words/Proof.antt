@@ -1,0 +1,13 @@
+-- `words`: each chip has its own number.
+-- Assumes nothing.
+use Rattle.device.proofs.sizes.Chip.words.Statement.{statement}
+use Rattle.device.proofs.sizes.Chip.words.Tie as tie
+
+returns : tie.Need-returns
+returns c = rw (c .if1 .taken)
+
+returns-2 : tie.Need-returns-2
+returns-2 c = rw (c .if1 .left)
+
+pub words-spec : {M : Type 1} → statement M
+words-spec = tie.close (tie.spec returns returns-2)
