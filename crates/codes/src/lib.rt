@@ -1,9 +1,10 @@
-// The sixteen sources and the sixteen destinations, by name. Destination 14 is none as well as 0.
+// The sixteen sources and the sixteen destinations, by name. Source 0 and destination 14 are none on the uPD77P20, where destination 0 is none as
+// well, and TRB on the uPD77C25.
 ghost use mathlib.Core.Path.{_≡_};
 ghost use Rattle.codes.specs.Codes.{sourceOf, destinationOf};
 
 pub enum Source {
-    None,
+    NoneOrTrb,
     A,
     B,
     Tr,
@@ -36,7 +37,7 @@ pub enum Destination {
     Klr,
     Klm,
     L,
-    None14,
+    NoneOrTrb,
     Mem,
 }
 
@@ -46,7 +47,7 @@ impl Source {
         ensures { λ r. ⌜ r ≡ sourceOf code ⌝ }
     {
         match code {
-            0 => Source::None,
+            0 => Source::NoneOrTrb,
             1 => Source::A,
             2 => Source::B,
             3 => Source::Tr,
@@ -62,7 +63,7 @@ impl Source {
             13 => Source::K,
             14 => Source::L,
             15 => Source::Mem,
-            _ => Source::None,
+            _ => Source::NoneOrTrb,
         }
     }
 }
@@ -87,7 +88,7 @@ impl Destination {
             11 => Destination::Klr,
             12 => Destination::Klm,
             13 => Destination::L,
-            14 => Destination::None14,
+            14 => Destination::NoneOrTrb,
             15 => Destination::Mem,
             _ => Destination::None,
         }
