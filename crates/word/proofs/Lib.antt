@@ -1,3 +1,5 @@
 pub mod Shifts
+pub mod Places
+pub mod JumpCodes
 pub mod RoundTrip
 pub mod Unique

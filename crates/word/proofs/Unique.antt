@@ -4,7 +4,7 @@ use mathlib.Core.Path.{sym, _∙_}
 use Rattle.word.specs.Unique.{OneTaken, OneBuilt}
 
 pub one-taken : OneTaken
-one-taken w x y e₁ e₂ = e₁ ∙ sym e₂
+one-taken large w x y e₁ e₂ = e₁ ∙ sym e₂
 
 pub one-built : OneBuilt
-one-built word x y e₁ e₂ = e₁ ∙ sym e₂
+one-built large word x y e₁ e₂ = e₁ ∙ sym e₂

@@ -1,4 +1,6 @@
 pub mod Fields
+pub mod Places
+pub mod JumpCodes
 pub mod Word
 pub mod RoundTrip
 pub mod Unique

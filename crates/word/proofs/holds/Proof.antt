@@ -11,5 +11,4 @@ returns : tie.Need-returns
 returns c = rw (one-shifted (c .args .high + 1 - c .args .low) (omega arith))
 
 pub holds-spec : {M : Type 1} → statement M
-holds-spec =
-    tie.close (tie.spec (λ c. search needs) (λ c. search needs) (λ c. search needs) returns)
+holds-spec = tie.close (tie.spec (λ c. search needs) (λ c. search needs) (λ c. search needs) returns)

@@ -1,4 +1,4 @@
--- `ldi_fields`: each field by the contract of `bits`.
+-- `ldi_fields`: each field by the contract that reads it.
 -- Assumes nothing.
 use borrow.Author.Needs.{needs}
 use Rattle.word.proofs.ldi_fields.Statement.{statement}
@@ -6,9 +6,14 @@ use Rattle.word.proofs.ldi_fields.Tie as tie
 
 returns : tie.Need-returns
 returns c =
-    rw (c .bits3 .ensures, c .before .bits2 .ensures, c .before .before .bits .ensures)
+    rw (
+      c .bits2 .ensures,
+      c .before .ldi-spare .ensures,
+      c .before .before .bits .ensures,
+      c .before .before .before .aligned .ensures,
+    )
 
 pub ldi-fields-spec : {M : Type 1} → statement M
 ldi-fields-spec =
-    tie.close (tie.spec (λ c κs. search needs) (λ c. search needs) (λ c κs. search needs) (λ c. search needs)
+    tie.close (tie.spec (λ c κs. search needs) (λ c κs. search needs) (λ c. search needs) (λ c κs. search needs)
     (λ c κs. search needs) (λ c. search needs) returns)

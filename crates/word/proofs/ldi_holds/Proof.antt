@@ -1,4 +1,4 @@
--- `ldi_holds`: each field by the contract of `holds`.
+-- `ldi_holds`: each field by the contract of its test.
 -- Assumes nothing.
 use borrow.Author.Needs.{needs}
 use Rattle.word.proofs.ldi_holds.Statement.{statement}
@@ -6,9 +6,13 @@ use Rattle.word.proofs.ldi_holds.Tie as tie
 
 returns : tie.Need-returns
 returns c =
-    rw (c .holds3 .ensures, c .before .before .holds2 .ensures, c .before .before .before .before .holds .ensures)
+    rw (
+      c .holds2 .ensures,
+      c .before .before .ldi-spare-holds .ensures,
+      c .before .before .before .holds .ensures,
+    )
 
 pub ldi-holds-spec : {M : Type 1} → statement M
 ldi-holds-spec =
-    tie.close (tie.spec (λ c κs. search needs) (λ c. search needs) (λ c κs. search needs) (λ c. search needs)
-    (λ c κs. search needs) returns)
+    tie.close (tie.spec (λ c κs. search needs) (λ c κs. search needs) (λ c. search needs) (λ c κs. search needs)
+    returns)

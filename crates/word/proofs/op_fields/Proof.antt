@@ -1,4 +1,4 @@
--- `op_fields`: each field by the contract of `bits`.
+-- `op_fields`: each field by the contract that reads it.
 -- Assumes nothing.
 use borrow.Author.Needs.{needs}
 use Rattle.word.proofs.op_fields.Statement.{statement}
@@ -7,19 +7,20 @@ use Rattle.word.proofs.op_fields.Tie as tie
 returns : tie.Need-returns
 returns c =
     rw (
-      c .bits8 .ensures,
-      c .before .bits7 .ensures,
-      c .before .before .bits6 .ensures,
-      c .before .before .before .bits5 .ensures,
+      c .bits7 .ensures,
+      c .before .bits6 .ensures,
+      c .before .before .bits5 .ensures,
+      c .before .before .before .dphm .ensures,
       c .before .before .before .before .bits4 .ensures,
       c .before .before .before .before .before .bits3 .ensures,
       c .before .before .before .before .before .before .bits2 .ensures,
       c .before .before .before .before .before .before .before .bits .ensures,
+      c .before .before .before .before .before .before .before .before .aligned .ensures,
     )
 
 pub op-fields-spec : {M : Type 1} → statement M
 op-fields-spec =
-    tie.close (tie.spec (λ c κs. search needs) (λ c. search needs) (λ c κs. search needs) (λ c. search needs)
-    (λ c κs. search needs) (λ c. search needs) (λ c κs. search needs) (λ c. search needs) (λ c κs. search needs)
+    tie.close (tie.spec (λ c κs. search needs) (λ c κs. search needs) (λ c. search needs) (λ c κs. search needs)
     (λ c. search needs) (λ c κs. search needs) (λ c. search needs) (λ c κs. search needs) (λ c. search needs)
+    (λ c κs. search needs) (λ c κs. search needs) (λ c. search needs) (λ c κs. search needs) (λ c. search needs)
     (λ c κs. search needs) (λ c. search needs) returns)
