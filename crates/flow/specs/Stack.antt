@@ -1,8 +1,9 @@
 -- The stack and PC: 01, "A push writes the stack cell numbered by the depth ..".
 use Prim.Native.Nat.{ℕ, _-_}
+use mathlib.Core.Bool.{Bool}
 use mathlib.Core.List.{[], _∷_}
 use lib.ListN.{getD}
-use Rattle.device.specs.Device.{upd77p20}
+use Rattle.device.specs.Device.{chip}
 use Rattle.device.specs.Pointers.{nextAddress}
 use Rattle.device.specs.Set.{set-pc, set-depth, set-stack0, set-stack1, set-stack2, set-stack3}
 use Rattle.device.specs.declared.pointers.InstructionAddress.{InstructionAddress}
@@ -20,6 +21,6 @@ stackCell r n = getD (r .stack0 ∷ r .stack1 ∷ r .stack2 ∷ []) n (r .stack3
 unfoldable pub popped : Registers → Registers
 popped r = set-pc (set-depth r (r .depth - 1)) (stackCell r (r .depth - 1))
 
--- "PC goes up by one, 511 to 0"
-abbrev pub stepped : Registers → Registers
-stepped r = set-pc r (nextAddress upd77p20 (r .pc))
+-- "PC goes up by one, 511 to 0"; on the larger chip 2047 to 0
+abbrev pub stepped : Bool → Registers → Registers
+stepped large r = set-pc r (nextAddress (chip large) (r .pc))

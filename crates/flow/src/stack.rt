@@ -75,10 +75,10 @@ pub fn pop(r: Registers) -> Registers
 }
 
 // The next word.
-pub fn step(r: Registers) -> Registers
-    ensures { λ q. ⌜ q ≡ stepped r ⌝ }
+pub fn step(large: bool, r: Registers) -> Registers
+    ensures { λ q. ⌜ q ≡ stepped large r ⌝ }
 {
     let mut q = r;
-    q.pc = r.pc.next();
+    q.pc = r.pc.next(large);
     q
 }
