@@ -12,7 +12,7 @@ use Rattle.alu.specs.declared.Accumulator.{Accumulator}
 use Rattle.alu.specs.Operations.{operated}
 use Rattle.device.specs.declared.registers.Registers.{Registers}
 use Rattle.word.specs.declared.OpFields.{OpFields}
-use Rattle.device.specs.Device.{upd77p20}
+use Rattle.device.specs.Device.{chip}
 use Rattle.device.specs.Pointers.{ramPointerMoved, romPointerDown}
 use Rattle.device.specs.Set.{set-dp, set-rp, set-sr, set-siack}
 use Rattle.device.specs.declared.pointers.RamPointer.{RamPointer}
@@ -67,9 +67,9 @@ dpAfter-idle dp f e₁ e₂ = rw (e₁, e₂, ramPointerMoved-still dp) (go (isD
     go false = refl
 
 -- DPL 0, DPH-M 0 and RPDCR 0 move no pointer
-pub pointed-idle : (r : Registers) (f : OpFields) → f .dpl ≡ 0 → f .dphm ≡ 0 → f .rpdcr ≡ 0 → pointed (r .dp) (r .rp) r f ≡ r
+pub pointed-idle : (large : Bool) (r : Registers) (f : OpFields) → f .dpl ≡ 0 → f .dphm ≡ 0 → f .rpdcr ≡ 0 → pointed large (r .dp) (r .rp) r f ≡ r
 unfolding pointed
-pointed-idle r f e₁ e₂ e₃ = rw (dpAfter-idle (r .dp) f e₁ e₂, e₃) (go (isDestination (f .dst) Dst.Rp))
+pointed-idle large r f e₁ e₂ e₃ = rw (dpAfter-idle (r .dp) f e₁ e₂, e₃) (go (isDestination (f .dst) Dst.Rp))
   where
     go : (t : Bool) → set-rp (set-dp r (r .dp)) (cond t (r .rp) (r .rp)) ≡ r
     go true = refl
@@ -103,32 +103,32 @@ accumulated-pointers r q f bus ram = go (blocked f) (choosesA f) _ _
     go false false x y = (refl, refl)
 
 -- only DST DP loads DP, and only DST RP loads RP
-module _ (dp : RamPointer) (rp : RomPointer) (q : Registers) (bus : ℕ) (ram rom : List ℕ) where
-  loaded-dp : (dst : ℕ) → (dst ≡ destinationCode Dst.Dp → ⊥) → loaded dp rp q (destinationOf dst) bus ram rom .dp ≡ q .dp
+module _ (large : Bool) (dp : RamPointer) (rp : RomPointer) (q : Registers) (bus : ℕ) (ram rom : List ℕ) where
+  loaded-dp : (dst : ℕ) → (dst ≡ destinationCode Dst.Dp → ⊥) → loaded large dp rp q (destinationOf dst) bus ram rom .dp ≡ q .dp
   unfolding loaded
   loaded-dp dst =
-      of-getD-but (λ d. loaded dp rp q d bus ram rom .dp ≡ q .dp) destinations (destinationCode Dst.Dp) dst
+      of-getD-but (λ d. loaded large dp rp q d bus ram rom .dp ≡ q .dp) destinations (destinationCode Dst.Dp) dst
       (refl, (refl, (refl, (refl, (refl, (refl, (refl, (refl, (refl, (refl, (refl, (refl, (refl, (refl, (refl, tt))))))))))))))) refl
 
-  loaded-rp : (dst : ℕ) → (dst ≡ destinationCode Dst.Rp → ⊥) → loaded dp rp q (destinationOf dst) bus ram rom .rp ≡ q .rp
+  loaded-rp : (dst : ℕ) → (dst ≡ destinationCode Dst.Rp → ⊥) → loaded large dp rp q (destinationOf dst) bus ram rom .rp ≡ q .rp
   unfolding loaded
   loaded-rp dst =
-      of-getD-but (λ d. loaded dp rp q d bus ram rom .rp ≡ q .rp) destinations (destinationCode Dst.Rp) dst
+      of-getD-but (λ d. loaded large dp rp q d bus ram rom .rp ≡ q .rp) destinations (destinationCode Dst.Rp) dst
       (refl, (refl, (refl, (refl, (refl, (refl, (refl, (refl, (refl, (refl, (refl, (refl, (refl, (refl, (refl, tt))))))))))))))) refl
 
 -- a pointer is moved from where it was, or is what was loaded
-pub pointed-loaded : (dp : RamPointer) (rp : RomPointer) (q : Registers) (f : OpFields) (bus : ℕ) (ram rom : List ℕ) → q .dp ≡ dp → q .rp ≡ rp
-    → pointed (loaded dp rp q (destinationOf (f .dst)) bus ram rom .dp) (loaded dp rp q (destinationOf (f .dst)) bus ram rom .rp) (loaded dp rp q (destinationOf (f .dst)) bus ram rom) f
-    ≡ pointed dp rp (loaded dp rp q (destinationOf (f .dst)) bus ram rom) f
+pub pointed-loaded : (large : Bool) (dp : RamPointer) (rp : RomPointer) (q : Registers) (f : OpFields) (bus : ℕ) (ram rom : List ℕ) → q .dp ≡ dp → q .rp ≡ rp
+    → pointed large (loaded large dp rp q (destinationOf (f .dst)) bus ram rom .dp) (loaded large dp rp q (destinationOf (f .dst)) bus ram rom .rp) (loaded large dp rp q (destinationOf (f .dst)) bus ram rom) f
+    ≡ pointed large dp rp (loaded large dp rp q (destinationOf (f .dst)) bus ram rom) f
 unfolding pointed
-pointed-loaded dp rp q f bus ram rom e₁ e₂ =
-    let x = loaded dp rp q (destinationOf (f .dst)) bus ram rom in
-    rw (on-dp x (λ h. loaded-dp dp rp q bus ram rom (f .dst) h ∙ e₁) (isDestination (f .dst) Dst.Dp) refl, on-rp x (λ h. loaded-rp dp rp q bus ram rom (f .dst) h ∙ e₂) (isDestination (f .dst) Dst.Rp) refl)
+pointed-loaded large dp rp q f bus ram rom e₁ e₂ =
+    let x = loaded large dp rp q (destinationOf (f .dst)) bus ram rom in
+    rw (on-dp x (λ h. loaded-dp large dp rp q bus ram rom (f .dst) h ∙ e₁) (isDestination (f .dst) Dst.Dp) refl, on-rp x (λ h. loaded-rp large dp rp q bus ram rom (f .dst) h ∙ e₂) (isDestination (f .dst) Dst.Rp) refl)
   where
     on-dp : (x : Registers) → ((f .dst ≡ destinationCode Dst.Dp → ⊥) → x .dp ≡ dp) → (t : Bool) → isDestination (f .dst) Dst.Dp ≡ t → cond t (x .dp) (ramPointerMoved (f .dpl) (f .dphm) (x .dp)) ≡ cond t (x .dp) (ramPointerMoved (f .dpl) (f .dphm) dp)
     on-dp x h true e = refl
     on-dp x h false e = ap (ramPointerMoved (f .dpl) (f .dphm)) (h (eqb-false (f .dst) (destinationCode Dst.Dp) e))
 
-    on-rp : (x : Registers) → ((f .dst ≡ destinationCode Dst.Rp → ⊥) → x .rp ≡ rp) → (t : Bool) → isDestination (f .dst) Dst.Rp ≡ t → cond t (x .rp) (cond (eqb (f .rpdcr) 0) (x .rp) (romPointerDown upd77p20 (x .rp))) ≡ cond t (x .rp) (cond (eqb (f .rpdcr) 0) rp (romPointerDown upd77p20 rp))
+    on-rp : (x : Registers) → ((f .dst ≡ destinationCode Dst.Rp → ⊥) → x .rp ≡ rp) → (t : Bool) → isDestination (f .dst) Dst.Rp ≡ t → cond t (x .rp) (cond (eqb (f .rpdcr) 0) (x .rp) (romPointerDown (chip large) (x .rp))) ≡ cond t (x .rp) (cond (eqb (f .rpdcr) 0) rp (romPointerDown (chip large) rp))
     on-rp x h true e = refl
-    on-rp x h false e = ap (λ z. cond (eqb (f .rpdcr) 0) z (romPointerDown upd77p20 z)) (h (eqb-false (f .dst) (destinationCode Dst.Rp) e))
+    on-rp x h false e = ap (λ z. cond (eqb (f .rpdcr) 0) z (romPointerDown (chip large) z)) (h (eqb-false (f .dst) (destinationCode Dst.Rp) e))

@@ -79,18 +79,19 @@ fn operate_b(r: Registers, operation: Operation, p: u16) -> Registers
 }
 
 // The operation of an OP or RT word w, unless its accumulator is the destination.
-pub fn accumulate(r: Registers, w: u32, bus: u16, ram: &[u16]) -> Registers
-    ensures { λ q. ⌜ q ≡ accumulated r r (opFields w) bus (now (ram .entry)) ⌝ }
+pub fn accumulate(large: bool, r: Registers, w: u32, bus: u16, ram: &[u16]) -> Registers
+    ensures { λ q. ⌜ q ≡ accumulated r r (opFields large w) bus (now (ram .entry)) ⌝ }
 {
-    let code = word::bits(w, 18, 15) as u8;
-    let asl = word::bits(w, 14, 14);
+    let v = word::aligned(large, w);
+    let code = word::bits(v, 18, 15) as u8;
+    let asl = word::bits(v, 14, 14);
     if code == 0 {
         return r;
     }
     if asl + 1 == word::bits(w, 3, 0) {
         return r;
     }
-    let p = operand(r, word::bits(w, 20, 19), bus, ram);
+    let p = operand(r, word::bits(v, 20, 19), bus, ram);
     let operation = Operation::of_code(code);
     if asl == 0 {
         return operate_a(r, operation, p);

@@ -1,21 +1,36 @@
 // What a source puts on the bus, and what reading it leaves behind.
 ghost use mathlib.Core.Path.{_≡_};
+ghost use mathlib.Core.Bool.{cond};
 ghost use Rattle.stages.specs.Bus.{busOf, readFrom};
 use codes::Source;
+use device::Chip;
 use device::Registers;
-use device::Upd77p20;
 
-pub fn bus_value(r: Registers, source: Source, ram: &[u16], rom: &[u16]) -> u16
-    ensures { λ x. ⌜ x ≡ busOf r source (now (ram .entry)) (now (rom .entry)) ⌝ }
+// Source 0.
+fn trb_or_none(large: bool, trb: u16) -> u16
+    ensures { λ x. ⌜ x ≡ cond large trb 0 ⌝ }
+{
+    if large { trb } else { 0 }
+}
+
+pub fn bus_value(
+    large: bool,
+    r: Registers,
+    trb: u16,
+    source: Source,
+    ram: &[u16],
+    rom: &[u16],
+) -> u16
+    ensures { λ x. ⌜ x ≡ busOf large r trb source (now (ram .entry)) (now (rom .entry)) ⌝ }
 {
     match source {
-        Source::None => 0,
+        Source::NoneOrTrb => trb_or_none(large, trb),
         Source::A => r.a,
         Source::B => r.b,
         Source::Tr => r.tr,
         Source::Dp => r.dp.0,
         Source::Rp => r.rp.0,
-        Source::Ro => Upd77p20::cell_value(device::cell_at(rom, r.rp.0)),
+        Source::Ro => Chip::cell_value(large, device::cell_at(rom, r.rp.0)),
         Source::Sgn => if r.flags.a.s1 { 0x7fff } else { 0x8000 },
         Source::Dr => r.dr,
         Source::Drnf => r.dr,

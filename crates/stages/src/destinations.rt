@@ -1,12 +1,12 @@
 // Where the bus goes.
 ghost use mathlib.Core.Path.{_≡_};
 ghost use lib.ListN.{set};
-ghost use Rattle.stages.specs.Destinations.{klmAddress, loaded, ramLoaded};
+ghost use Rattle.stages.specs.Destinations.{klmAddress, loaded, trbLoaded, ramLoaded};
 use codes::Destination;
+use device::Chip;
 use device::RamPointer;
 use device::Registers;
 use device::RomPointer;
-use device::Upd77p20;
 
 // DP with bit 6 set.
 fn klm_address(dp: RamPointer) -> u16
@@ -17,13 +17,14 @@ fn klm_address(dp: RamPointer) -> u16
 
 // The arms meet before the record is handed back: handed back in each, it is copied in each.
 pub fn load(
+    large: bool,
     r: Registers,
     destination: Destination,
     bus: u16,
     ram: &mut [u16],
     rom: &[u16],
 ) -> Registers
-    ensures { λ q. ⌜ (q ≡ loaded (r .dp) (r .rp) r destination bus (now (ram .entry)) (now (rom .entry))) × (now (ram .exit) ≡ ramLoaded (r .dp) destination bus (now (ram .entry))) ⌝ }
+    ensures { λ q. ⌜ (q ≡ loaded large (r .dp) (r .rp) r destination bus (now (ram .entry)) (now (rom .entry))) × (now (ram .exit) ≡ ramLoaded (r .dp) destination bus (now (ram .entry))) ⌝ }
 {
     let mut q = r;
     match destination {
@@ -38,10 +39,10 @@ pub fn load(
             q.tr = bus;
         }
         Destination::Dp => {
-            q.dp = RamPointer::of_bus(bus);
+            q.dp = RamPointer::of_bus(large, bus);
         }
         Destination::Rp => {
-            q.rp = RomPointer::of_bus(bus);
+            q.rp = RomPointer::of_bus(large, bus);
         }
         Destination::Dr => {
             q.dr = bus;
@@ -65,7 +66,7 @@ pub fn load(
         }
         Destination::Klr => {
             q.k = bus;
-            q.l = Upd77p20::cell_value(device::cell_at(rom, r.rp.0));
+            q.l = Chip::cell_value(large, device::cell_at(rom, r.rp.0));
         }
         Destination::Klm => {
             q.k = device::cell_at(ram, klm_address(r.dp));
@@ -74,12 +75,19 @@ pub fn load(
         Destination::L => {
             q.l = bus;
         }
-        Destination::None14 => {}
+        Destination::NoneOrTrb => {}
         Destination::Mem => {
             store(ram, r.dp, bus);
         }
     }
     q
+}
+
+// TRB after a word with this DST.
+pub fn load_trb(large: bool, trb: u16, dst: u32, bus: u16) -> u16
+    ensures { λ x. ⌜ x ≡ trbLoaded large trb dst bus ⌝ }
+{
+    if large & (dst == 14) { bus } else { trb }
 }
 
 // RAM at DP; nothing beyond its end.

@@ -9,4 +9,5 @@ pub use accumulators::accumulate;
 pub use bus::bus_value;
 pub use bus::read_from;
 pub use destinations::load;
+pub use destinations::load_trb;
 pub use pointing::point;

@@ -39,5 +39,5 @@ returns-4 c =
 
 pub operand-spec : {M : Type 1} → statement M
 operand-spec =
-    tie.close (tie.spec (λ c κs. search needs) returns (λ c κs. search needs) returns-2 (λ c κs. search needs)
-    returns-3 returns-4)
+    tie.close (tie.spec (λ c κs. search needs) returns (λ c κs. search needs) returns-2 (λ c κs. search needs) returns-3
+    returns-4)

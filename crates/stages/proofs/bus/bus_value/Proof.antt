@@ -9,7 +9,7 @@ use Rattle.stages.proofs.bus.bus_value.Tie as tie
 
 returns : tie.Need-returns
 unfolding busOf
-returns c = rw (c .enum-told .given .1)
+returns c = rw (c .trb-or-none .ensures, c .before .enum-told .given .1)
 
 returns-2 : tie.Need-returns-2
 unfolding busOf
@@ -77,9 +77,9 @@ returns-17 c = rw (c .cell-at2 .ensures, c .before .enum-told16 .given .1)
 
 pub bus-value-spec : {M : Type 1} → statement M
 bus-value-spec =
-    tie.close (tie.spec (λ c. search needs) (λ c. search needs) (λ c. search needs) (λ c. search needs)
-    (λ c. search needs) (λ c. search needs) (λ c. search needs) (λ c κs. search needs) (λ c κs. search needs)
-    (λ c. search needs) (λ c. search needs) (λ c. search needs) (λ c. search needs) (λ c. search needs)
-    (λ c. search needs) (λ c κs. search needs) (λ c. search needs) (λ c. search needs) (λ c. search needs)
-    (λ c κs. search needs) returns returns-2 returns-3 returns-4 returns-5 returns-6 returns-7 returns-8 returns-9
-    returns-10 returns-11 returns-12 returns-13 returns-14 returns-15 returns-16 returns-17)
+    tie.close (tie.spec (λ c. search needs) (λ c κs. search needs) (λ c. search needs) (λ c. search needs)
+    (λ c. search needs) (λ c. search needs) (λ c. search needs) (λ c. search needs) (λ c κs. search needs)
+    (λ c κs. search needs) (λ c. search needs) (λ c. search needs) (λ c. search needs) (λ c. search needs)
+    (λ c. search needs) (λ c. search needs) (λ c κs. search needs) (λ c. search needs) (λ c. search needs)
+    (λ c. search needs) (λ c κs. search needs) returns returns-2 returns-3 returns-4 returns-5 returns-6 returns-7
+    returns-8 returns-9 returns-10 returns-11 returns-12 returns-13 returns-14 returns-15 returns-16 returns-17)

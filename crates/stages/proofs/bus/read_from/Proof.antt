@@ -20,7 +20,7 @@ others = 0 ∷ 1 ∷ 2 ∷ 3 ∷ 4 ∷ 5 ∷ 6 ∷ 7 ∷ 9 ∷ 10 ∷ 13 ∷ 14 
 -- the sources that leave every register as it is
 unread : (r : Registers) (s : Source) → OneOf others (tagOf the-type s) → r ≡ readFrom r s
 unfolding readFrom
-unread r Source.None h = refl
+unread r Source.NoneOrTrb h = refl
 unread r Source.A h = refl
 unread r Source.B h = refl
 unread r Source.Tr h = refl
