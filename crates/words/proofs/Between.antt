@@ -1,6 +1,7 @@
 -- The registers between the stages of an OP or RT word.
 -- Assumes nothing.
 use Prim.Native.Nat.{ℕ}
+use mathlib.Core.Bool.{Bool}
 use mathlib.Core.List.{List}
 use Rattle.device.specs.declared.registers.Registers.{Registers}
 use Rattle.word.specs.declared.OpFields.{OpFields}
@@ -11,16 +12,16 @@ use Rattle.stages.specs.Destinations.{loaded}
 use Rattle.stages.specs.Pointing.{pointed}
 use Rattle.words.specs.Operation.{opBus}
 
-module _ (r : Registers) (f : OpFields) where
+module _ (large : Bool) (r : Registers) (trb : ℕ) (f : OpFields) where
   abbrev pub opRead : Registers
   opRead = readFrom r (sourceOf (f .src))
 
   module _ (ram rom : List ℕ) where
     abbrev pub opOperated : Registers
-    opOperated = accumulated r opRead f (opBus r f ram rom) ram
+    opOperated = accumulated r opRead f (opBus large r trb f ram rom) ram
 
     abbrev pub opLoaded : Registers
-    opLoaded = loaded (r .dp) (r .rp) opOperated (destinationOf (f .dst)) (opBus r f ram rom) ram rom
+    opLoaded = loaded large (r .dp) (r .rp) opOperated (destinationOf (f .dst)) (opBus large r trb f ram rom) ram rom
 
     abbrev pub opPointed : Registers
-    opPointed = pointed (r .dp) (r .rp) opLoaded f
+    opPointed = pointed large (r .dp) (r .rp) opLoaded f

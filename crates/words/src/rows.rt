@@ -3,10 +3,11 @@ ghost use mathlib.Core.Path.{_≡_};
 ghost use mathlib.Core.List.{List};
 ghost use Prim.Native.Nat.{ℕ};
 ghost use lib.Dec.{leb};
-ghost use Rattle.word.specs.Fields.{opFields, jpFields, ldiFields};
+ghost use Rattle.word.specs.Fields.{aligned, opFields, ldiFields};
+ghost use Rattle.word.specs.Word.{jumpOf};
 ghost use Rattle.words.specs.Outcomes.{refusedWord, finishedWord, outcome};
 ghost use Rattle.words.specs.Operation.{pcMoved, opWord};
-ghost use Rattle.words.specs.Jump.{jumped, jpWord};
+ghost use Rattle.words.specs.Jump.{jumped, jumpHolds, jpWord};
 ghost use Rattle.words.specs.Load.{ldiWord};
 ghost use Rattle.words.specs.Word.{wordDone};
 use crate::outcomes::AfterWord;
@@ -16,61 +17,66 @@ use crate::refusals::ldi_refusal;
 use crate::refusals::op_refusal;
 use codes::Destination;
 use codes::Source;
+use device::Chip;
 use device::InstructionAddress;
 use device::Registers;
-use device::Upd77p20;
 
-// The first JP word, and the first LDI word.
+// The first JP word, the first LDI word and the first number that is no word, as `aligned` has them.
 const FIRST_JP: u32 = 2 << 21;
 
 const FIRST_LDI: u32 = 3 << 21;
 
+const FIRST_WIDE: u32 = 4 << 21;
+
 // A refused word leaves the registers as they were.
-fn refuse(number: u8, r: Registers) -> AfterWord
-    ensures { λ x. ⌜ ((ram : List ℕ) → outcome x ram ≡ refusedWord number r ram) ⌝ }
+fn refuse(number: u8, r: Registers, trb: u16) -> AfterWord
+    ensures { λ x. ⌜ ((ram : List ℕ) → outcome x ram ≡ refusedWord number r trb ram) ⌝ }
 {
     AfterWord {
         number,
+        trb,
         registers: r,
     }
 }
 
 // Every finished word goes through here.
-fn finish(q: Registers) -> AfterWord
-    ensures { λ x. ⌜ ((ram : List ℕ) → outcome x ram ≡ finishedWord q ram) ⌝ }
+fn finish(q: Registers, trb: u16) -> AfterWord
+    ensures { λ x. ⌜ ((ram : List ℕ) → outcome x ram ≡ finishedWord q trb ram) ⌝ }
 {
     AfterWord {
         number: 0,
+        trb,
         registers: q,
     }
 }
 
 // The pop of an RT word, or the next word.
-fn leave(r: Registers, w: u32) -> Registers
-    ensures { λ q. ⌜ q ≡ pcMoved (leb 2097152 w) r ⌝ }
+fn leave(large: bool, r: Registers, w: u32) -> Registers
+    ensures { λ q. ⌜ q ≡ pcMoved large (leb 2097152 (aligned large w)) r ⌝ }
 {
-    if FIRST_RT <= w {
+    if FIRST_RT <= word::aligned(large, w) {
         return flow::pop(r);
     }
-    flow::step(r)
+    flow::step(large, r)
 }
 
 // An OP or RT word.
-fn op_word(r: Registers, w: u32, ram: &mut [u16], rom: &[u16]) -> AfterWord
-    ensures { λ x. ⌜ outcome x (now (ram .exit)) ≡ opWord (leb 2097152 w) r (opFields w) (now (ram .entry)) (now (rom .entry)) ⌝ }
+fn op_word(large: bool, r: Registers, trb: u16, w: u32, ram: &mut [u16], rom: &[u16]) -> AfterWord
+    ensures { λ x. ⌜ outcome x (now (ram .exit)) ≡ opWord large (leb 2097152 (aligned large w)) r trb (opFields large w) (now (ram .entry)) (now (rom .entry)) ⌝ }
 {
-    let number = op_refusal(r, w, rom);
+    let number = op_refusal(large, r, w, rom);
     if number != 0 {
-        return refuse(number, r);
+        return refuse(number, r, trb);
     }
     let source = Source::of_code(word::bits(w, 7, 4) as u8);
     let destination = Destination::of_code(word::bits(w, 3, 0) as u8);
-    let bus = stages::bus_value(r, source, ram, rom);
+    let bus = stages::bus_value(large, r, trb, source, ram, rom);
     let read = stages::read_from(r, source);
-    let operated = stages::accumulate(read, w, bus, ram);
-    let loaded = stages::load(operated, destination, bus, ram, rom);
-    let pointed = stages::point(loaded, w);
-    finish(leave(pointed, w))
+    let trb_loaded = stages::load_trb(large, trb, word::bits(w, 3, 0), bus);
+    let operated = stages::accumulate(large, read, w, bus, ram);
+    let loaded = stages::load(large, operated, destination, bus, ram, rom);
+    let pointed = stages::point(large, loaded, w);
+    finish(leave(large, pointed, w), trb_loaded)
 }
 
 fn jump(r: Registers, na: u16) -> Registers
@@ -82,68 +88,90 @@ fn jump(r: Registers, na: u16) -> Registers
     q
 }
 
-// A JP word: a jump, a call, a jump on a condition, or none of these. NA is taken in each: held over the tests it would cost every word.
-fn jp_word(r: Registers, w: u32) -> AfterWord
-    ensures { λ x. ⌜ ((ram : List ℕ) → outcome x ram ≡ jpWord r (jpFields w) ram) ⌝ }
+// Whether a jump on a condition is taken.
+fn jump_holds(large: bool, r: Registers, w: u32) -> bool
+    ensures { λ x. ⌜ x ≡ jumpHolds r (jumpOf large w) ⌝ }
 {
-    let brch = word::bits(w, 20, 18);
+    let holds = flow::condition_holds(r, word::condition(large, w));
+    if word::turned_round(large, w) {
+        !holds
+    } else {
+        holds
+    }
+}
+
+// A JP word: a jump, a call, a jump on a condition, or none of these. NA is taken in each: held over the tests it would cost every word.
+fn jp_word(large: bool, r: Registers, trb: u16, w: u32) -> AfterWord
+    ensures { λ x. ⌜ ((ram : List ℕ) → outcome x ram ≡ jpWord large r trb (jumpOf large w) ram) ⌝ }
+{
+    let brch = word::branch(large, w);
     if brch == 4 {
-        if jp_unused_bits(w, true) {
-            return refuse(18, r);
+        if jp_unused_bits(large, w, true) {
+            return refuse(18, r, trb);
         }
-        let na = word::bits(w, 12, 4) as u16;
-        return finish(jump(r, na));
+        let na = word::address(large, w);
+        return finish(jump(r, na), trb);
     }
     if brch == 5 {
-        if jp_unused_bits(w, true) {
-            return refuse(18, r);
+        if jp_unused_bits(large, w, true) {
+            return refuse(18, r, trb);
         }
-        if Upd77p20::STACK <= r.depth {
-            return refuse(9, r);
+        if Chip::stack(large) <= r.depth {
+            return refuse(9, r, trb);
         }
-        let na = word::bits(w, 12, 4) as u16;
-        let back = r.pc.next();
-        return finish(jump(flow::push(r, back), na));
+        let na = word::address(large, w);
+        let back = r.pc.next(large);
+        return finish(jump(flow::push(r, back), na), trb);
     }
     if brch == 2 {
-        if jp_unused_bits(w, false) {
-            return refuse(18, r);
+        if jp_unused_bits(large, w, false) {
+            return refuse(18, r, trb);
         }
-        if flow::condition_holds(r, word::bits(w, 17, 13) as u8) {
-            let na = word::bits(w, 12, 4) as u16;
-            return finish(jump(r, na));
+        if jump_holds(large, r, w) {
+            let na = word::address(large, w);
+            return finish(jump(r, na), trb);
         }
-        return finish(flow::step(r));
+        return finish(flow::step(large, r), trb);
     }
-    refuse(5, r)
+    refuse(5, r, trb)
 }
 
 // An LDI word.
-fn ldi_word(r: Registers, w: u32, ram: &mut [u16], rom: &[u16]) -> AfterWord
-    ensures { λ x. ⌜ outcome x (now (ram .exit)) ≡ ldiWord r (ldiFields w) (now (ram .entry)) (now (rom .entry)) ⌝ }
+fn ldi_word(large: bool, r: Registers, trb: u16, w: u32, ram: &mut [u16], rom: &[u16]) -> AfterWord
+    ensures { λ x. ⌜ outcome x (now (ram .exit)) ≡ ldiWord large r trb (ldiFields large w) (now (ram .entry)) (now (rom .entry)) ⌝ }
 {
-    let number = ldi_refusal(r, w, rom);
+    let number = ldi_refusal(large, r, w, rom);
     if number != 0 {
-        return refuse(number, r);
+        return refuse(number, r, trb);
     }
     let destination = Destination::of_code(word::bits(w, 3, 0) as u8);
-    let loaded = stages::load(r, destination, word::bits(w, 20, 5) as u16, ram, rom);
-    finish(flow::step(loaded))
+    let id = word::bits(word::aligned(large, w), 20, 5) as u16;
+    let loaded = stages::load(large, r, destination, id, ram, rom);
+    let trb_loaded = stages::load_trb(large, trb, word::bits(w, 3, 0), id);
+    finish(flow::step(large, loaded), trb_loaded)
 }
 
-// The word at PC, refused or done. D22-21 tell the rows apart, so each row is a range of words.
-pub fn one_word(r: Registers, program: &[u32], rom: &[u16], ram: &mut [u16]) -> AfterWord
-    ensures { λ x. ⌜ outcome x (now (ram .exit)) ≡ wordDone r (now (program .entry)) (now (rom .entry)) (now (ram .entry)) ⌝ }
+// The word at PC, refused or done. Its two top bits tell the rows apart, so each row is a range of words.
+pub fn one_word(
+    large: bool,
+    r: Registers,
+    trb: u16,
+    program: &[u32],
+    rom: &[u16],
+    ram: &mut [u16],
+) -> AfterWord
+    ensures { λ x. ⌜ outcome x (now (ram .exit)) ≡ wordDone large r trb (now (program .entry)) (now (rom .entry)) (now (ram .entry)) ⌝ }
 {
     let w = r.pc.word(program);
-    if w < FIRST_JP {
-        return op_word(r, w, ram, rom);
+    let v = word::aligned(large, w);
+    if v < FIRST_JP {
+        return op_word(large, r, trb, w, ram, rom);
     }
-    if w < FIRST_LDI {
-        return jp_word(r, w);
+    if v < FIRST_LDI {
+        return jp_word(large, r, trb, w);
     }
-    if w < Upd77p20::WORD_LIMIT {
-        return ldi_word(r, w, ram, rom);
+    if v < FIRST_WIDE {
+        return ldi_word(large, r, trb, w, ram, rom);
     }
-    refuse(4, r)
+    refuse(4, r, trb)
 }

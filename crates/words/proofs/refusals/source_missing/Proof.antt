@@ -1,4 +1,4 @@
--- `source_missing`: the definition's tests one by one, with the fields read from the word.
+-- `source_missing`: never on the larger chip; on the smaller one the definition's tests one by one, with the fields read from the word.
 -- Assumes nothing.
 use Prim.Native.Nat.{ℕ}
 use native.Mathlib.Omega.{arith}
@@ -21,29 +21,34 @@ sends : (d n : ℕ) {b : Bool} → d ≡ n → (not (eqb d 0) && not (eqb d 14))
 sends d n e h = rw (sym e) (neither (eqb d 0) (eqb d 14) ∙ h)
 
 returns : tie.Need-returns
-returns c = rw (ne-eqb (bits (c .before .before .args .w) 7 4) 0 (λ e. omega (arith, c .if1 .taken)))
+returns c = rw (c .if1 .taken)
 
 returns-2 : tie.Need-returns-2
-returns-2 c =
-    let w = c .before .before .before .before .args .w in
-    rw (eq-eqb (bits w 7 4) 0 (omega arith), sends _ _ (c .before .bits2 .ensures) (c .if2 .taken))
+returns-2 c = rw (c .before .before .if1 .left, ne-eqb (bits (c .before .before .before .args .w) 7 4) 0 (λ e. omega (arith, c .if2 .taken)))
 
 returns-3 : tie.Need-returns-3
 returns-3 c =
-    let w = c .before .before .before .before .before .before .args .w in
-    rw (
-      eq-eqb (bits w 7 4) 0 (omega arith),
-      sends _ _ (c .before .before .before .bits2 .ensures) (c .before .before .if2 .left),
-      ne-eqb (bits w 20 19) 1 (λ e. omega (arith, c .if3 .taken)),
-    )
-    (sym (and-false (leb 1 (bits w 18 15) && leb (bits w 18 15) 7)))
+    let w = c .before .before .before .before .before .args .w in
+    rw (c .before .before .before .before .if1 .left, eq-eqb (bits w 7 4) 0 (omega arith), sends _ _ (c .before .bits2 .ensures) (c .if3 .taken))
 
 returns-4 : tie.Need-returns-4
 returns-4 c =
     let w = c .before .before .before .before .before .before .before .args .w in
     rw (
+      c .before .before .before .before .before .before .if1 .left,
       eq-eqb (bits w 7 4) 0 (omega arith),
-      sends _ _ (c .before .before .before .before .bits2 .ensures) (c .before .before .before .if2 .left),
+      sends _ _ (c .before .before .before .bits2 .ensures) (c .before .before .if3 .left),
+      ne-eqb (bits w 20 19) 1 (λ e. omega (arith, c .if4 .taken)),
+    )
+    (sym (and-false (leb 1 (bits w 18 15) && leb (bits w 18 15) 7)))
+
+returns-5 : tie.Need-returns-5
+returns-5 c =
+    let w = c .before .before .before .before .before .before .before .before .args .w in
+    rw (
+      c .before .before .before .before .before .before .before .if1 .left,
+      eq-eqb (bits w 7 4) 0 (omega arith),
+      sends _ _ (c .before .before .before .before .bits2 .ensures) (c .before .before .before .if3 .left),
       eq-eqb (bits w 20 19) 1 (omega arith),
       c .bits4 .ensures,
     )
@@ -51,5 +56,5 @@ returns-4 c =
 
 pub source-missing-spec : {M : Type 1} → statement M
 source-missing-spec =
-    tie.close (tie.spec (λ c κs. search needs) returns (λ c κs. search needs) returns-2 (λ c κs. search needs) returns-3
-    (λ c κs. search needs) returns-4)
+    tie.close (tie.spec returns (λ c κs. search needs) returns-2 (λ c κs. search needs) returns-3 (λ c κs. search needs)
+    returns-4 (λ c κs. search needs) returns-5)
