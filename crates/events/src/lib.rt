@@ -4,9 +4,9 @@ ghost use Rattle.events.specs.Events as spec;
 
 mod host;
 
+use device::Chip;
 use device::InstructionAddress;
 use device::Registers;
-use device::Upd77p20;
 pub use host::byte_read;
 pub use host::host_read;
 pub use host::host_write;
@@ -60,7 +60,7 @@ pub fn reset_machine(r: Registers) -> Registers
     ensures { λ q. ⌜ q ≡ spec.reset r ⌝ }
 {
     let mut q = r;
-    let fresh = Upd77p20::fresh_registers();
+    let fresh = Chip::fresh_registers();
     let pc = fresh.pc;
     let flags = fresh.flags;
     q.pc = pc;

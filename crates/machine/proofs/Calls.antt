@@ -3,11 +3,11 @@
 use Prim.Native.Nat.{ℕ, _<_}
 use native.Mathlib.Omega.{arith}
 use mathlib.Core.Path.{_≡_, sym, ap, _∙_}
-use mathlib.Core.Bool.{true, false}
+use mathlib.Core.Bool.{Bool, true, false}
 use mathlib.Core.List.{List}
 use borrow.Author.Tests.{leb-true}
 use Rattle.numbers.proofs.Codes.{Misses, past}
-use Rattle.device.specs.Device.{upd77p20}
+use Rattle.device.specs.Device.{chip}
 use Rattle.device.specs.Registers.{registersFit}
 use Rattle.device.specs.declared.registers.Registers.{Registers}
 use Rattle.machine.specs.Promises.{CallRefused}
@@ -15,33 +15,33 @@ use Rattle.machine.specs.Replies.{refusedCall, finishedCall}
 use Rattle.machine.specs.Events.{lentFit, kinds, kindDone, eventDone}
 use Rattle.events.specs.Events.{allowed, reset}
 
-module _ (r : Registers) (program rom ram : List ℕ) (kind value : ℕ) where
-  pub call-refused-1 : lentFit program rom ram ≡ false → refusedCall 1 r ram ≡ eventDone r program rom ram kind value
+module _ (large : Bool) (r : Registers) (trb : ℕ) (program rom ram : List ℕ) (kind value : ℕ) where
+  pub call-refused-1 : lentFit large program rom ram ≡ false → refusedCall 1 r trb ram ≡ eventDone large r trb program rom ram kind value
   unfolding eventDone
   call-refused-1 e = rw e
 
-  module _ (long : lentFit program rom ram ≡ true) where
-    pub call-refused-2 : registersFit upd77p20 r ≡ false → refusedCall 2 r ram ≡ eventDone r program rom ram kind value
+  module _ (long : lentFit large program rom ram ≡ true) where
+    pub call-refused-2 : registersFit (chip large) r ≡ false → refusedCall 2 r trb ram ≡ eventDone large r trb program rom ram kind value
     unfolding eventDone
     call-refused-2 e = rw (long, e)
 
-    module _ (fit : registersFit upd77p20 r ≡ true) where
-      pub call-refused-3 : allowed kind value ≡ false → refusedCall 3 r ram ≡ eventDone r program rom ram kind value
+    module _ (fit : registersFit (chip large) r ≡ true) where
+      pub call-refused-3 : allowed kind value ≡ false → refusedCall 3 r trb ram ≡ eventDone large r trb program rom ram kind value
       unfolding eventDone
       call-refused-3 e = rw (long, fit, e)
 
-      pub call-done : allowed kind value ≡ true → kindDone kind value r program rom ram ≡ eventDone r program rom ram kind value
+      pub call-done : allowed kind value ≡ true → kindDone large kind value r trb program rom ram ≡ eventDone large r trb program rom ram kind value
       unfolding eventDone
       call-done e = rw (long, fit, e)
 
   -- a kind that is none of the others is the reset
-  pub kind-reset : Misses 7 kind → finishedCall 0 (reset r) ram ≡ kindDone kind value r program rom ram
+  pub kind-reset : Misses 7 kind → finishedCall 0 (reset r) trb ram ≡ kindDone large kind value r trb program rom ram
   unfolding kindDone
-  kind-reset h = past (kinds value r program rom ram) (finishedCall 0 (reset r) ram) kind h
+  kind-reset h = past (kinds large value r trb program rom ram) (finishedCall 0 (reset r) trb ram) kind h
 
 pub call-refused : CallRefused
-call-refused r program rom ram kind value =
-    ((λ e. sym (call-refused-1 r program rom ram kind value e)), (λ long e. sym (call-refused-2 r program rom ram kind value long e)), (λ long fit e. sym (call-refused-3 r program rom ram kind value long fit e)))
+call-refused large r trb program rom ram kind value =
+    ((λ e. sym (call-refused-1 large r trb program rom ram kind value e)), (λ long e. sym (call-refused-2 large r trb program rom ram kind value long e)), (λ long fit e. sym (call-refused-3 large r trb program rom ram kind value long fit e)))
 
 -- what a kind allows fits its type
 module _ (kind value : ℕ) (ok : allowed kind value ≡ true) where

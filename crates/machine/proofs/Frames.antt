@@ -13,18 +13,18 @@ use Rattle.machine.specs.Replies.{finishedCall}
 use Rattle.events.specs.Host.{statusAccessed, byteRead, hostRead, hostWritten}
 use Rattle.machine.specs.Events.{kindDone, eventDone}
 use Rattle.events.specs.Events.{reset}
-use Rattle.machine.specs.Promises.{Untouched, EventRefused, KeepsRam}
+use Rattle.machine.specs.Promises.{Untouched, EventRefused, KeepsRam, KeepsTrb}
 use Rattle.machine.specs.HostPort.{HostOnly, ReadsOnly, WritesOnly, SeesDrAndSr, SeesSr}
 use Rattle.machine.specs.Resetting.{Reset, EventResets}
 
 -- ---- a refused event changes nothing
 
 pub event-refused : EventRefused
-event-refused r program rom ram kind value =
-    by-kinds (Untouched r ram) r program rom ram kind value
+event-refused large r trb program rom ram kind value =
+    by-kinds (Untouched r trb ram) large r trb program rom ram kind value
     (record { refused = λ number h. refl; read = done; written = done; status = done; word-in = done; word-out = done; taken = done; ignored = done }) (λ e. done)
   where
-    done : {w v : ℕ} {q : Registers} → Untouched r ram (record { number = 0; words = w; value = v; registers = q; ram = ram })
+    done : {w v : ℕ} {q : Registers} → Untouched r trb ram (record { number = 0; words = w; value = v; registers = q; trb = trb; ram = ram })
     done h = absurd (h refl)
 
 -- ---- the host's port
@@ -63,43 +63,48 @@ nothing r = record { others = refl; middle = refl; low = refl }
 
 pub reads-only : ReadsOnly
 unfolding kindDone
-reads-only r program rom ram value = by-tests (λ e. HostOnly r (e .registers)) r program rom ram 1 value (λ n. nothing r) (λ ok. read-only r)
+reads-only large r trb program rom ram value = by-tests (λ e. HostOnly r (e .registers)) large r trb program rom ram 1 value (λ n. nothing r) (λ ok. read-only r)
 
 pub writes-only : WritesOnly
 unfolding kindDone
-writes-only r program rom ram value = by-tests (λ e. HostOnly r (e .registers)) r program rom ram 2 value (λ n. nothing r) (λ ok. write-only r value)
+writes-only large r trb program rom ram value = by-tests (λ e. HostOnly r (e .registers)) large r trb program rom ram 2 value (λ n. nothing r) (λ ok. write-only r value)
 
--- no event but a run touches the RAM
+-- no event but a run touches the RAM, or TRB
 pub keeps-ram : KeepsRam
-keeps-ram r program rom ram kind value =
-    by-kinds (λ e. e .ram ≡ ram) r program rom ram kind value
+keeps-ram large r trb program rom ram kind value =
+    by-kinds (λ e. e .ram ≡ ram) large r trb program rom ram kind value
+    (record { refused = λ number. refl; read = refl; written = refl; status = refl; word-in = refl; word-out = refl; taken = refl; ignored = refl }) (λ e. refl)
+
+pub keeps-trb : KeepsTrb
+keeps-trb large r trb program rom ram kind value =
+    by-kinds (λ e. e .trb ≡ trb) large r trb program rom ram kind value
     (record { refused = λ number. refl; read = refl; written = refl; status = refl; word-in = refl; word-out = refl; taken = refl; ignored = refl }) (λ e. refl)
 
 -- an answered read is a read
-pub host-read-done : (r : Registers) (program rom ram : List ℕ) (value : ℕ) → eventDone r program rom ram 1 value .number ≡ 0 → eventDone r program rom ram 1 value ≡ finishedCall (byteRead r) (hostRead r) ram
+pub host-read-done : (large : Bool) (r : Registers) (trb : ℕ) (program rom ram : List ℕ) (value : ℕ) → eventDone large r trb program rom ram 1 value .number ≡ 0 → eventDone large r trb program rom ram 1 value ≡ finishedCall (byteRead r) (hostRead r) trb ram
 unfolding kindDone
-host-read-done r program rom ram value =
-    by-tests (λ e. e .number ≡ 0 → e ≡ finishedCall (byteRead r) (hostRead r) ram) r program rom ram 1 value (λ n e. absurd (omega arith)) (λ ok e. refl)
+host-read-done large r trb program rom ram value =
+    by-tests (λ e. e .number ≡ 0 → e ≡ finishedCall (byteRead r) (hostRead r) trb ram) large r trb program rom ram 1 value (λ n e. absurd (omega arith)) (λ ok e. refl)
 
 -- an answered read hands the byte of DR and SR, an answered look at the status SR's high byte
-pub byte-handed : (r : Registers) (program rom ram : List ℕ) (value : ℕ) → eventDone r program rom ram 1 value .number ≡ 0 → eventDone r program rom ram 1 value .value ≡ byteRead r
-byte-handed r program rom ram value e = ap (λ x. x .value) (host-read-done r program rom ram value e)
+pub byte-handed : (large : Bool) (r : Registers) (trb : ℕ) (program rom ram : List ℕ) (value : ℕ) → eventDone large r trb program rom ram 1 value .number ≡ 0 → eventDone large r trb program rom ram 1 value .value ≡ byteRead r
+byte-handed large r trb program rom ram value e = ap (λ x. x .value) (host-read-done large r trb program rom ram value e)
 
-pub status-handed : (r : Registers) (program rom ram : List ℕ) (value : ℕ) → eventDone r program rom ram 3 value .number ≡ 0 → eventDone r program rom ram 3 value .value ≡ bits (r .sr) 15 8
+pub status-handed : (large : Bool) (r : Registers) (trb : ℕ) (program rom ram : List ℕ) (value : ℕ) → eventDone large r trb program rom ram 3 value .number ≡ 0 → eventDone large r trb program rom ram 3 value .value ≡ bits (r .sr) 15 8
 unfolding kindDone
-status-handed r program rom ram value = by-tests (λ e. e .number ≡ 0 → e .value ≡ bits (r .sr) 15 8) r program rom ram 3 value (λ n e. absurd (omega arith)) (λ ok e. refl)
+status-handed large r trb program rom ram value = by-tests (λ e. e .number ≡ 0 → e .value ≡ bits (r .sr) 15 8) large r trb program rom ram 3 value (λ n e. absurd (omega arith)) (λ ok e. refl)
 
 same-byte : (r s : Registers) → r .dr ≡ s .dr → r .sr ≡ s .sr → byteRead r ≡ byteRead s
 unfolding byteRead
 same-byte r s e₁ e₂ = rw (e₁, e₂)
 
 pub sees-dr-and-sr : SeesDrAndSr
-sees-dr-and-sr r s d t program₁ rom₁ ram₁ program₂ rom₂ ram₂ value₁ value₂ e₁ e₂ =
-    byte-handed r program₁ rom₁ ram₁ value₁ e₁ ∙ same-byte r s d t ∙ sym (byte-handed s program₂ rom₂ ram₂ value₂ e₂)
+sees-dr-and-sr r s d t large₁ large₂ trb₁ trb₂ program₁ rom₁ ram₁ program₂ rom₂ ram₂ value₁ value₂ e₁ e₂ =
+    byte-handed large₁ r trb₁ program₁ rom₁ ram₁ value₁ e₁ ∙ same-byte r s d t ∙ sym (byte-handed large₂ s trb₂ program₂ rom₂ ram₂ value₂ e₂)
 
 pub sees-sr : SeesSr
-sees-sr r s t program₁ rom₁ ram₁ program₂ rom₂ ram₂ value₁ value₂ e₁ e₂ =
-    status-handed r program₁ rom₁ ram₁ value₁ e₁ ∙ ap (λ x. bits x 15 8) t ∙ sym (status-handed s program₂ rom₂ ram₂ value₂ e₂)
+sees-sr r s t large₁ large₂ trb₁ trb₂ program₁ rom₁ ram₁ program₂ rom₂ ram₂ value₁ value₂ e₁ e₂ =
+    status-handed large₁ r trb₁ program₁ rom₁ ram₁ value₁ e₁ ∙ ap (λ x. bits x 15 8) t ∙ sym (status-handed large₂ s trb₂ program₂ rom₂ ram₂ value₂ e₂)
 
 -- ---- reset
 
@@ -124,4 +129,5 @@ resets r =
 
 pub event-resets : EventResets
 unfolding kindDone
-event-resets r program rom ram value = by-tests (λ e. e .number ≡ 0 → Reset r (e .registers)) r program rom ram 7 value (λ n e. absurd (omega arith)) (λ ok e. resets r)
+event-resets large r trb program rom ram value =
+    by-tests (λ e. e .number ≡ 0 → Reset r (e .registers) × (e .trb ≡ trb)) large r trb program rom ram 7 value (λ n e. absurd (omega arith)) (λ ok e. (resets r, refl))

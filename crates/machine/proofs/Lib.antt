@@ -6,3 +6,4 @@ pub mod Fitting
 pub mod Endings
 pub mod Frames
 pub mod WordsDone
+pub mod Never

@@ -24,13 +24,13 @@ abbrev Right : Registers → ℕ → Ending → Type 0
 Right r kind e = e .words ≡ cond (interruptAccepted kind r e) 2 0
 
 -- kind 6, by its two tests
-edge-counts : (r : Registers) (ram : List ℕ) → Right r 6 (interruptEnding r ram)
+edge-counts : (large : Bool) (r : Registers) (trb : ℕ) (ram : List ℕ) → Right r 6 (interruptEnding large r trb ram)
 unfolding interruptEnding
-edge-counts r ram = by-cond (Right r 6) (ei (r .sr)) (λ on. of-cond (Right r 6) (stackFull r) refl (rw on)) (λ off. rw off)
+edge-counts large r trb ram = by-cond (Right r 6) (ei (r .sr)) (λ on. of-cond (Right r 6) (stackFull large r) refl (rw on)) (λ off. rw off)
 
 pub counts-interrupts : CountsInterrupts
-counts-interrupts r program rom ram kind value =
-    by-tests (Right r (suc kind)) r program rom ram (suc kind) value
+counts-interrupts large r trb program rom ram kind value =
+    by-tests (Right r (suc kind)) large r trb program rom ram (suc kind) value
     (λ number. rw (ne-eqb (suc number) 0 (λ z. absurd (omega arith))) (refused (eqb (suc kind) 6))) (go kind)
   where
     -- what is refused is not accepted, be it an edge or not
@@ -38,24 +38,24 @@ counts-interrupts r program rom ram kind value =
     refused true = refl
     refused false = refl
 
-    go : (kind : ℕ) → allowed (suc kind) value ≡ true → Right r (suc kind) (kindDone (suc kind) value r program rom ram)
+    go : (kind : ℕ) → allowed (suc kind) value ≡ true → Right r (suc kind) (kindDone large (suc kind) value r trb program rom ram)
     go zero ok = unfold kindDone in refl
     go (suc zero) ok = unfold kindDone in refl
     go (suc (suc zero)) ok = unfold kindDone in refl
     go (suc (suc (suc zero))) ok = unfold kindDone in refl
     go (suc (suc (suc (suc zero)))) ok = unfold kindDone serialOutEnding in of-cond (Right r 5) (r .sorq) refl refl
-    go (suc (suc (suc (suc (suc zero))))) ok = unfold kindDone in edge-counts r ram
+    go (suc (suc (suc (suc (suc zero))))) ok = unfold kindDone in edge-counts large r trb ram
     go (suc (suc (suc (suc (suc (suc zero)))))) ok = unfold kindDone in refl
     go (suc (suc (suc (suc (suc (suc (suc kind))))))) ok = absurd (false≢true ok)
 
 -- nothing is against the call, so its answer is that of the two tests
 pub interrupt-answers : InterruptAnswers
 unfolding eventDone kindDone interruptEnding
-interrupt-answers r program rom ram long fit = ((λ off. rw (long, fit, off)), (λ on full. rw (long, fit, on, full)), (λ on room. rw (long, fit, on, room)))
+interrupt-answers large r trb program rom ram long fit = ((λ off. rw (long, fit, off)), (λ on full. rw (long, fit, on, full)), (λ on room. rw (long, fit, on, room)))
 
 -- kind 0: a call that is refused as a whole finishes no word, else the run counts
 pub counts-fetched : CountsFetched
 unfolding kindDone
-counts-fetched r program rom ram value =
-    by-tests (Fetched program rom r ram) r program rom ram 0 value (λ number. record { found = []; finished = none; counted = refl })
-    (λ ok. let run = run-counts program rom value 0 r ram in record { found = run .found; finished = run .finished; counted = omega (arith, run .counted) })
+counts-fetched large r trb program rom ram value =
+    by-tests (Fetched large program rom r trb ram) large r trb program rom ram 0 value (λ number. record { found = []; finished = none; counted = refl })
+    (λ ok. let run = run-counts large program rom value 0 r trb ram in record { found = run .found; finished = run .finished; counted = omega (arith, run .counted) })

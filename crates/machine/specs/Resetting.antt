@@ -1,7 +1,7 @@
--- What a reader asks of event 7: "reset: PC, depth, flags, SR, SORQ, SIACK, SOACK to 0", and the rest as it was.
+-- What a reader asks of event 7: "reset: PC, depth, flags, SR, SORQ, SIACK, SOACK to 0", and the rest as it was, TRB of the larger chip too.
 use Prim.Native.Nat.{ℕ}
 use mathlib.Core.Path.{_≡_}
-use mathlib.Core.Bool.{false}
+use mathlib.Core.Bool.{Bool, false}
 use mathlib.Core.List.{List}
 use Rattle.device.specs.Registers.{clearFlags}
 use Rattle.device.specs.declared.registers.Registers.{Registers}
@@ -23,4 +23,6 @@ pub record Reset (r q : Registers) : Type 0 where
   pub pointers : (q .dp ≡ r .dp) × (q .rp ≡ r .rp)
 
 abbrev pub EventResets : Type 0
-EventResets = (r : Registers) (program rom ram : List ℕ) (value : ℕ) → eventDone r program rom ram 7 value .number ≡ 0 → Reset r (eventDone r program rom ram 7 value .registers)
+EventResets =
+    (large : Bool) (r : Registers) (trb : ℕ) (program rom ram : List ℕ) (value : ℕ) → eventDone large r trb program rom ram 7 value .number ≡ 0
+    → Reset r (eventDone large r trb program rom ram 7 value .registers) × (eventDone large r trb program rom ram 7 value .trb ≡ trb)

@@ -6,7 +6,7 @@ use mathlib.Core.Bool.{Bool, true, false, cond, _&&_}
 use mathlib.Core.List.{List}
 use lib.Dec.{eqb}
 use lib.ListN.{length}
-use Rattle.device.specs.Device.{upd77p20}
+use Rattle.device.specs.Device.{chip}
 use Rattle.device.specs.Registers.{registersFit}
 use Rattle.device.specs.declared.registers.Registers.{Registers}
 use Rattle.status.specs.Status.{ei}
@@ -23,22 +23,22 @@ interruptAccepted kind r e = eqb kind 6 && eqb (e .number) 0 && ei (r .sr)
 -- every kind but 0: an accepted interrupt counts 2, all else none
 abbrev pub CountsInterrupts : Type 0
 CountsInterrupts =
-    (r : Registers) (program rom ram : List ℕ) (kind value : ℕ)
-    → eventDone r program rom ram (suc kind) value .words ≡ cond (interruptAccepted (suc kind) r (eventDone r program rom ram (suc kind) value)) 2 0
+    (large : Bool) (r : Registers) (trb : ℕ) (program rom ram : List ℕ) (kind value : ℕ)
+    → eventDone large r trb program rom ram (suc kind) value .words ≡ cond (interruptAccepted (suc kind) r (eventDone large r trb program rom ram (suc kind) value)) 2 0
 
 -- the three answers to an edge, each with number, words done and value, wherever lengths and registers fit: ignored, refused and accepted
 abbrev pub InterruptAnswers : Type 0
 InterruptAnswers =
-    (r : Registers) (program rom ram : List ℕ) → lentFit program rom ram ≡ true → registersFit upd77p20 r ≡ true
-    → (ei (r .sr) ≡ false → eventDone r program rom ram 6 0 ≡ record { number = 0; words = 0; value = 0; registers = r; ram = ram })
-    × (ei (r .sr) ≡ true → stackFull r ≡ true → eventDone r program rom ram 6 0 ≡ record { number = 9; words = 0; value = 0; registers = r; ram = ram })
-    × (ei (r .sr) ≡ true → stackFull r ≡ false → eventDone r program rom ram 6 0 ≡ record { number = 0; words = 2; value = 0; registers = interrupted r; ram = ram })
+    (large : Bool) (r : Registers) (trb : ℕ) (program rom ram : List ℕ) → lentFit large program rom ram ≡ true → registersFit (chip large) r ≡ true
+    → (ei (r .sr) ≡ false → eventDone large r trb program rom ram 6 0 ≡ record { number = 0; words = 0; value = 0; registers = r; trb = trb; ram = ram })
+    × (ei (r .sr) ≡ true → stackFull large r ≡ true → eventDone large r trb program rom ram 6 0 ≡ record { number = 9; words = 0; value = 0; registers = r; trb = trb; ram = ram })
+    × (ei (r .sr) ≡ true → stackFull large r ≡ false → eventDone large r trb program rom ram 6 0 ≡ record { number = 0; words = 2; value = 0; registers = interrupted r; trb = trb; ram = ram })
 
 -- kind 0: the words that finish one after another, each at PC of the program lent, from what was lent to what the call leaves, and no others
-pub record Fetched (program rom : List ℕ) (r : Registers) (ram : List ℕ) (e : Ending) : Type 0 where
+pub record Fetched (large : Bool) (program rom : List ℕ) (r : Registers) (trb : ℕ) (ram : List ℕ) (e : Ending) : Type 0 where
   pub found : List Registers
-  pub finished : Finished program rom found r ram (e .registers) (e .ram)
+  pub finished : Finished large program rom found r trb ram (e .registers) (e .trb) (e .ram)
   pub counted : e .words ≡ length found
 
 abbrev pub CountsFetched : Type 0
-CountsFetched = (r : Registers) (program rom ram : List ℕ) (value : ℕ) → Fetched program rom r ram (eventDone r program rom ram 0 value)
+CountsFetched = (large : Bool) (r : Registers) (trb : ℕ) (program rom ram : List ℕ) (value : ℕ) → Fetched large program rom r trb ram (eventDone large r trb program rom ram 0 value)

@@ -4,7 +4,7 @@ use mathlib.Core.Path.{_≡_, sym, _∙_}
 use mathlib.Core.Bool.{true}
 use borrow.Author.Tests.{not-true, not-false}
 use denote.Ref.{now}
-use Rattle.device.specs.Device.{upd77p20}
+use Rattle.device.specs.Device.{chip}
 use Rattle.device.specs.Registers.{registersFit}
 use Rattle.machine.specs.Events.{lentFit, kindDone, eventDone}
 use Rattle.events.specs.Events.{allowed}
@@ -14,32 +14,32 @@ use Rattle.machine.proofs.call.event.Statement.{statement}
 use Rattle.machine.proofs.call.event.Tie as tie
 
 module _ (c : tie.Else1) where
-  long : lentFit (now (c .before .before .before .before .before .args .program)) (now (c .before .before .before .before .before .args .rom)) (now (c .before .before .before .before .before .args .ram)) ≡ true
+  long : let s = c .before .before .before .before .before .args in lentFit (s .large) (now (s .program)) (now (s .rom)) (now (s .ram)) ≡ true
   long = sym (c .before .lengths-fit .ensures) ∙ not-false (c .before .lengths-fit .result) (c .if1 .left)
 
 module _ (c : tie.Else2) where
-  fit : registersFit upd77p20 (c .before .before .before .before .before .before .before .args .registers) ≡ true
+  fit : let s = c .before .before .before .before .before .before .before .args in registersFit (chip (s .large)) (s .registers) ≡ true
   fit = sym (c .before .fit .ensures) ∙ not-false (c .before .fit .result) (c .if2 .left)
 
 module _ (c : tie.Else3) where
-  ok : allowed (c .before .before .before .before .before .before .before .before .before .args .kind) (c .before .before .before .before .before .before .before .before .before .args .value) ≡ true
+  ok : let s = c .before .before .before .before .before .before .before .before .before .args in allowed (s .kind) (s .value) ≡ true
   ok = sym (c .before .allowed .ensures) ∙ not-false (c .before .allowed .result) (c .if3 .left)
 
-  done : kindDone (c .before .before .before .before .before .before .before .before .before .args .kind) (c .before .before .before .before .before .before .before .before .before .args .value) (c .before .before .before .before .before .before .before .before .before .args .registers) (now (c .before .before .before .before .before .before .before .before .before .args .program)) (now (c .before .before .before .before .before .before .before .before .before .args .rom)) (now (c .before .before .before .before .before .before .before .before .before .args .ram))
-      ≡ eventDone (c .before .before .before .before .before .before .before .before .before .args .registers) (now (c .before .before .before .before .before .before .before .before .before .args .program)) (now (c .before .before .before .before .before .before .before .before .before .args .rom)) (now (c .before .before .before .before .before .before .before .before .before .args .ram)) (c .before .before .before .before .before .before .before .before .before .args .kind) (c .before .before .before .before .before .before .before .before .before .args .value)
-  done = let s = c .before .before .before .before .before .before .before .before .before .args in call-done (s .registers) (now (s .program)) (now (s .rom)) (now (s .ram)) (s .kind) (s .value) (long (c .before .before .before .before)) (fit (c .before .before)) ok
+  done : let s = c .before .before .before .before .before .before .before .before .before .args in kindDone (s .large) (s .kind) (s .value) (s .registers) (s .trb) (now (s .program)) (now (s .rom)) (now (s .ram))
+      ≡ eventDone (s .large) (s .registers) (s .trb) (now (s .program)) (now (s .rom)) (now (s .ram)) (s .kind) (s .value)
+  done = let s = c .before .before .before .before .before .before .before .before .before .args in call-done (s .large) (s .registers) (s .trb) (now (s .program)) (now (s .rom)) (now (s .ram)) (s .kind) (s .value) (long (c .before .before .before .before)) (fit (c .before .before)) ok
 
 returns : tie.Need-returns
 returns c = let s = c .before .before .before .before .before .before .args in
-    c .refuse .ensures _ ∙ call-refused-1 (s .registers) (now (s .program)) (now (s .rom)) (now (s .ram)) (s .kind) (s .value) (sym (c .before .before .lengths-fit .ensures) ∙ not-true _ (c .before .if1 .taken))
+    c .refuse .ensures _ ∙ call-refused-1 (s .large) (s .registers) (s .trb) (now (s .program)) (now (s .rom)) (now (s .ram)) (s .kind) (s .value) (sym (c .before .before .lengths-fit .ensures) ∙ not-true _ (c .before .if1 .taken))
 
 returns-2 : tie.Need-returns-2
 returns-2 c = let s = c .before .before .before .before .before .before .before .before .args in
-    c .refuse2 .ensures _ ∙ call-refused-2 (s .registers) (now (s .program)) (now (s .rom)) (now (s .ram)) (s .kind) (s .value) (long (c .before .before .before)) (sym (c .before .before .fit .ensures) ∙ not-true _ (c .before .if2 .taken))
+    c .refuse2 .ensures _ ∙ call-refused-2 (s .large) (s .registers) (s .trb) (now (s .program)) (now (s .rom)) (now (s .ram)) (s .kind) (s .value) (long (c .before .before .before)) (sym (c .before .before .fit .ensures) ∙ not-true _ (c .before .if2 .taken))
 
 returns-3 : tie.Need-returns-3
 returns-3 c = let s = c .before .before .before .before .before .before .before .before .before .before .args in
-    c .refuse3 .ensures _ ∙ call-refused-3 (s .registers) (now (s .program)) (now (s .rom)) (now (s .ram)) (s .kind) (s .value) (long (c .before .before .before .before .before)) (fit (c .before .before .before)) (sym (c .before .before .allowed .ensures) ∙ not-true _ (c .before .if3 .taken))
+    c .refuse3 .ensures _ ∙ call-refused-3 (s .large) (s .registers) (s .trb) (now (s .program)) (now (s .rom)) (now (s .ram)) (s .kind) (s .value) (long (c .before .before .before .before .before)) (fit (c .before .before .before)) (sym (c .before .before .allowed .ensures) ∙ not-true _ (c .before .if3 .taken))
 
 cast-run : tie.Need-cast-run
 cast-run c = record { fits = run-fits _ _ (ok (c .before .before)) (c .before .match .keys1) }
@@ -80,7 +80,7 @@ returns-10 c = rw (c .interrupt-event .ensures, ← done (c .before .before), c 
 
 returns-11 : tie.Need-returns-11
 returns-11 c = let s = c .before .before .before .before .before .before .before .before .before .before .before .before .args in
-    rw (c .finish5 .ensures, c .before .reset-machine .ensures) (kind-reset (s .registers) (now (s .program)) (now (s .rom)) (now (s .ram)) (s .kind) (s .value) (c .before .before .match .rest) ∙ done (c .before .before .before))
+    rw (c .finish5 .ensures, c .before .reset-machine .ensures) (kind-reset (s .large) (s .registers) (s .trb) (now (s .program)) (now (s .rom)) (now (s .ram)) (s .kind) (s .value) (c .before .before .match .rest) ∙ done (c .before .before .before))
 
 pub event-spec : {M : Type 1} → statement M
 event-spec =
