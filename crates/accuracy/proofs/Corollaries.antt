@@ -1,8 +1,9 @@
 -- Without a word that adds the flags tell of the start alone; with one, of the start plus one M.
 -- Assumes nothing.
-use Prim.Native.Nat.{_≤_}
+use Prim.Native.Nat.{ℕ, _≤_}
 use native.Mathlib.Omega.{arith}
 use mathlib.Core.Path.{_≡_, refl, ap, subst, _∙_}
+use mathlib.Core.Bool.{Bool}
 use mathlib.Core.List.{List, [], _∷_}
 use lib.IntN.{pos, negsuc, _+ℤ_}
 use lib.ListN.{length}
@@ -26,21 +27,21 @@ use Rattle.accuracy.proofs.Mix.{ms}
 use Rattle.accuracy.proofs.Demand3.{calls-mix, parted}
 
 -- the answer is the start and each M added up, held
-pub mix-answer : (r : Registers) (calls : List Call) (ps : List Inputs) → Clear r → Unreset r calls → Alone r calls → added (deeds r calls) ≡ ps → length (ms ps) ≤ 3
-    → answer (accumulatorA (after r calls)) ≡ held (negsuc 32767) (pos 32767) (wholeSum (signed (r .a)) (ms ps))
-mix-answer r calls ps clear unreset alone e n = ap answer (calls-mix r calls unreset alone ∙ ap (λ x. summed (accumulatorA r) (ms x)) e) ∙ sums-held (accumulatorA r) (ms ps) clear n
+pub mix-answer : (large : Bool) (r : Registers) (trb : ℕ) (calls : List Call) (ps : List Inputs) → Clear r → Unreset large r trb calls → Alone large r trb calls → added (deeds large r trb calls) ≡ ps → length (ms ps) ≤ 3
+    → answer (accumulatorA (after large r trb calls)) ≡ held (negsuc 32767) (pos 32767) (wholeSum (signed (r .a)) (ms ps))
+mix-answer large r trb calls ps clear unreset alone e n = ap answer (calls-mix large r trb calls unreset alone ∙ ap (λ x. summed (accumulatorA r) (ms x)) e) ∙ sums-held (accumulatorA r) (ms ps) clear n
 
 pub no-adds : NoAdds
 unfolding wholeSum up down
-no-adds r calls clear unreset alone e =
+no-adds large r trb calls clear unreset alone e =
     let s = ud-signed (r .a) in
-    mix-answer r calls [] clear unreset alone e (omega arith) ∙ held-within (negsuc 32767) (pos 32767) (signed (r .a)) (omega arith) (omega arith)
+    mix-answer large r trb calls [] clear unreset alone e (omega arith) ∙ held-within (negsuc 32767) (pos 32767) (signed (r .a)) (omega arith) (omega arith)
 
 pub one-add : OneAdd
 unfolding wholeSum
-one-add r calls p clear unreset alone apart e =
-    mix-answer r calls (p ∷ []) clear unreset alone e (omega arith)
+one-add large r trb calls p clear unreset alone apart e =
+    mix-answer large r trb calls (p ∷ []) clear unreset alone e (omega arith)
     ∙ ap (λ m. held (negsuc 32767) (pos 32767) (signed (r .a) +ℤ m)) (m-exact (p .k) (p .l) (subst (Every NotBoth) e apart .0))
 
 pub nothing-after-reset : NothingAfterReset
-nothing-after-reset r calls ds es e unreset = parted NoReset ds (event 7 ∷ es) (subst (Every NoReset) e unreset) .1 .0 refl
+nothing-after-reset large r trb calls ds es e unreset = parted NoReset ds (event 7 ∷ es) (subst (Every NoReset) e unreset) .1 .0 refl

@@ -38,45 +38,45 @@ Mixed r ds q = accumulatorA q ≡ mixed (accumulatorA r) ds
 
 -- ---- a run
 
-word-mixes : (r q : Registers) (program rom ram : List ℕ) (ds : List Deed) → wordDone r program rom ram .number ≡ 0 → NothingElse (word (fetched r program) r)
-    → Mixed (wordDone r program rom ram .registers) ds q → Mixed r (word (fetched r program) r ∷ ds) q
+word-mixes : (large : Bool) (r q : Registers) (trb : ℕ) (program rom ram : List ℕ) (ds : List Deed) → wordDone large r trb program rom ram .number ≡ 0 → NothingElse (word (fetched large r program) r)
+    → Mixed (wordDone large r trb program rom ram .registers) ds q → Mixed r (word (fetched large r program) r ∷ ds) q
 unfolding added summed
-word-mixes r q program rom ram ds done h rest = go (addsM (fetched r program)) refl
+word-mixes large r q trb program rom ram ds done h rest = go (addsM (fetched large r program)) refl
   where
-    go : (t : Bool) → addsM (fetched r program) ≡ t → accumulatorA q ≡ summed (accumulatorA r) (ms (cond t (record { k = r .k; l = r .l } ∷ added ds) (added ds)))
-    go true e = rest ∙ ap (λ a. mixed a ds) (word-adds r program rom ram done e)
-    go false e = let n = h e in rest ∙ ap (λ a. mixed a ds) (word-leaves r program rom ram done (n .0) (n .1))
+    go : (t : Bool) → addsM (fetched large r program) ≡ t → accumulatorA q ≡ summed (accumulatorA r) (ms (cond t (record { k = r .k; l = r .l } ∷ added ds) (added ds)))
+    go true e = rest ∙ ap (λ a. mixed a ds) (word-adds large r trb program rom ram done e)
+    go false e = let n = h e in rest ∙ ap (λ a. mixed a ds) (word-leaves large r trb program rom ram done (n .0) (n .1))
 
-words-mix : {program rom : List ℕ} {r q : Registers} {ram left : List ℕ} {found : List Registers} → Finished program rom found r ram q left
-    → Every NothingElse (wordDeeds program found) → Mixed r (wordDeeds program found) q
+words-mix : {large : Bool} {program rom : List ℕ} {r q : Registers} {trb after-trb : ℕ} {ram left : List ℕ} {found : List Registers} → Finished large program rom found r trb ram q after-trb left
+    → Every NothingElse (wordDeeds large program found) → Mixed r (wordDeeds large program found) q
 unfolding added summed
 words-mix none h = refl
-words-mix {program = program} (next {r = r} {q = q} {ram = ram} {found = found} done rest) h = word-mixes r q program _ ram (wordDeeds program found) done (h .0) (words-mix rest (h .1))
+words-mix {large = large} {program = program} (next {r = r} {q = q} {trb = trb} {ram = ram} {found = found} done rest) h = word-mixes large r q trb program _ ram (wordDeeds large program found) done (h .0) (words-mix rest (h .1))
 
 -- ---- an event other than a run
 
 -- it leaves A and its flags, unless it is a reset
-event-leaves : (r : Registers) (program rom ram : List ℕ) (kind value : ℕ) → (suc kind ≡ 7 → ⊥) → SameA r (eventDone r program rom ram (suc kind) value .registers)
-event-leaves r program rom ram kind value h =
-    by-kinds (λ e. SameA r (e .registers)) r program rom ram kind value
+event-leaves : (large : Bool) (r : Registers) (trb : ℕ) (program rom ram : List ℕ) (kind value : ℕ) → (suc kind ≡ 7 → ⊥) → SameA r (eventDone large r trb program rom ram (suc kind) value .registers)
+event-leaves large r trb program rom ram kind value h =
+    by-kinds (λ e. SameA r (e .registers)) large r trb program rom ram kind value
     (record { refused = λ number. refl; read = refl; written = refl; status = refl; word-in = refl; word-out = refl; taken = pushed-a r (r .pc); ignored = refl }) (λ e. absurd (h e))
 
 -- ---- a call
 
-call-mixes : (r : Registers) (c : Call) → Every NoReset (callDeeds r c) → Every NothingElse (callDeeds r c) → Mixed r (callDeeds r c) (ended r c .registers)
+call-mixes : (large : Bool) (r : Registers) (trb : ℕ) (c : Call) → Every NoReset (callDeeds large r trb c) → Every NothingElse (callDeeds large r trb c) → Mixed r (callDeeds large r trb c) (ended large r trb c .registers)
 unfolding added summed
-call-mixes r c = go (c .kind) refl
+call-mixes large r trb c = go (c .kind) refl
   where
-    other : (kind : ℕ) → c .kind ≡ suc kind → (t : Bool) → eqb (ended r c .number) 0 ≡ t → Every NoReset (cond t (event (suc kind) ∷ []) []) → Mixed r (cond t (event (suc kind) ∷ []) []) (ended r c .registers)
-    other kind e true z h = let n = h .0 in rw e (event-leaves r (c .program) (c .rom) (c .ram) kind (c .value) (λ s. absurd (omega arith)))
+    other : (kind : ℕ) → c .kind ≡ suc kind → (t : Bool) → eqb (ended large r trb c .number) 0 ≡ t → Every NoReset (cond t (event (suc kind) ∷ []) []) → Mixed r (cond t (event (suc kind) ∷ []) []) (ended large r trb c .registers)
+    other kind e true z h = let n = h .0 in rw e (event-leaves large r trb (c .program) (c .rom) (c .ram) kind (c .value) (λ s. absurd (omega arith)))
     other kind e false z h =
-        let n = eqb-false (ended r c .number) 0 z in
-        let u = event-refused r (c .program) (c .rom) (c .ram) kind (c .value) in
-        ap (λ x. accumulatorA (x .registers)) (subst (λ k. Untouched r (c .ram) (eventDone r (c .program) (c .rom) (c .ram) k (c .value))) (sym e) u n)
+        let n = eqb-false (ended large r trb c .number) 0 z in
+        let u = event-refused large r trb (c .program) (c .rom) (c .ram) kind (c .value) in
+        ap (λ x. accumulatorA (x .registers)) (subst (λ k. Untouched r trb (c .ram) (eventDone large r trb (c .program) (c .rom) (c .ram) k (c .value))) (sym e) u n)
 
-    go : (kind : ℕ) → c .kind ≡ kind → Every NoReset (callDeeds r c) → Every NothingElse (callDeeds r c) → Mixed r (callDeeds r c) (ended r c .registers)
-    go zero e h k = let l = listed r c e in rw (l .listed) (words-mix (l .finished) (subst (Every NothingElse) (l .listed) k))
-    go (suc kind) e h k = let d = other-deeds r c kind e in rw d (other kind e (eqb (ended r c .number) 0) refl (subst (Every NoReset) d h))
+    go : (kind : ℕ) → c .kind ≡ kind → Every NoReset (callDeeds large r trb c) → Every NothingElse (callDeeds large r trb c) → Mixed r (callDeeds large r trb c) (ended large r trb c .registers)
+    go zero e h k = let l = listed large r trb c e in rw (l .listed) (words-mix (l .finished) (subst (Every NothingElse) (l .listed) k))
+    go (suc kind) e h k = let d = other-deeds large r trb c kind e in rw d (other kind e (eqb (ended large r trb c .number) 0) refl (subst (Every NoReset) d h))
 
 -- ---- all calls
 
@@ -95,16 +95,17 @@ pub parted : (P : Deed → Type 0) (ds es : List Deed) → Every P (ds ++ es) �
 parted P [] es h = (tt, h)
 parted P (d ∷ ds) es h = let k = parted P ds es (h .1) in ((h .0, k .0), k .1)
 
-pub calls-mix : (r : Registers) (calls : List Call) → Unreset r calls → Alone r calls → Mixed r (deeds r calls) (after r calls)
+pub calls-mix : (large : Bool) (r : Registers) (trb : ℕ) (calls : List Call) → Unreset large r trb calls → Alone large r trb calls → Mixed r (deeds large r trb calls) (after large r trb calls)
 unfolding added summed deeds after
-calls-mix r [] h k = refl
-calls-mix r (c ∷ calls) h k =
-    let ds = callDeeds r c in
-    let q = ended r c .registers in
-    let h₂ = parted NoReset ds (deeds q calls) h in
-    let k₂ = parted NothingElse ds (deeds q calls) k in
-    calls-mix q calls (h₂ .1) (k₂ .1) ∙ ap (λ a. mixed a (deeds q calls)) (call-mixes r c (h₂ .0) (k₂ .0)) ∙ sym (mixed-on ds (deeds q calls) (accumulatorA r))
+calls-mix large r trb [] h k = refl
+calls-mix large r trb (c ∷ calls) h k =
+    let ds = callDeeds large r trb c in
+    let q = ended large r trb c .registers in
+    let t = ended large r trb c .trb in
+    let h₂ = parted NoReset ds (deeds large q t calls) h in
+    let k₂ = parted NothingElse ds (deeds large q t calls) k in
+    calls-mix large q t calls (h₂ .1) (k₂ .1) ∙ ap (λ a. mixed a (deeds large q t calls)) (call-mixes large r trb c (h₂ .0) (k₂ .0)) ∙ sym (mixed-on ds (deeds large q t calls) (accumulatorA r))
 
 pub demand3 : Demand3
-demand3 r calls clear unreset three alone apart =
-    rw (calls-mix r calls unreset alone) (mix-accurate (accumulatorA r) (added (deeds r calls)) clear (omega arith) apart)
+demand3 large r trb calls clear unreset three alone apart =
+    rw (calls-mix large r trb calls unreset alone) (mix-accurate (accumulatorA r) (added (deeds large r trb calls)) clear (omega arith) apart)

@@ -51,7 +51,7 @@ unfolding
     deeds callDeeds wordsOf added after eventDone kindDone ran reset wordDone fetchedDone takenApart wordOf opWord opRefusal ldiWord ldiRefusal readFrom accumulated
     operandOf operated plus sumFlags loaded ramLoaded pointed ramPointerMoved freshRegisters registersFit mOf product signed floorDiv floorMod leaves held heldSum
     in32768ths products answer wordsDone wordsIn interruptsIn interruptEnding pushed
-examples = (
+examples trb = (
   -- Tight
   (refl, (tt, (tt, (tt, tt))), omega arith, (adds, (adds, (adds, tt))), (positive 1, (positive 1, (positive 1, tt))), refl, refl),
   -- Sharp
@@ -72,4 +72,8 @@ examples = (
   (refl, refl, refl, refl),
   -- InterruptRefused
   (refl, refl, refl, refl),
+  -- Tight, Sharp and FourAdds on the larger chip
+  (refl, (tt, (tt, (tt, tt))), omega arith, (adds, (adds, (adds, tt))), (positive 1, (positive 1, (positive 1, tt))), refl, refl),
+  (refl, refl, refl, refl, refl),
+  (refl, (tt, (tt, (tt, (tt, (tt, (tt, tt)))))), refl, (adds, (adds, ((λ e. (refl, refl)), (adds, ((λ e. (refl, refl)), (adds, tt)))))), (other 32766 (λ z. absurd (omega arith)), (other 32766 (λ z. absurd (omega arith)), (other 2 (λ z. absurd (omega arith)), (positive 32767, tt)))), refl, refl, (λ h. h .near .le)),
 )

@@ -43,16 +43,16 @@ pub read-a : (r : Registers) (s : Source) → SameA r (readFrom r s)
 read-a r s = of-read r s (SameA r) refl refl refl
 
 -- only DST A loads A
-pub loaded-a : (dp : RamPointer) (rp : RomPointer) (q : Registers) (dst bus : ℕ) (ram rom : List ℕ) → (dst ≡ destinationCode Dst.A → ⊥) → SameA q (loaded dp rp q (destinationOf dst) bus ram rom)
+pub loaded-a : (large : Bool) (dp : RamPointer) (rp : RomPointer) (q : Registers) (dst bus : ℕ) (ram rom : List ℕ) → (dst ≡ destinationCode Dst.A → ⊥) → SameA q (loaded large dp rp q (destinationOf dst) bus ram rom)
 unfolding loaded
-loaded-a dp rp q dst bus ram rom =
-    of-getD-but (λ d. SameA q (loaded dp rp q d bus ram rom)) destinations (destinationCode Dst.A) dst
+loaded-a large dp rp q dst bus ram rom =
+    of-getD-but (λ d. SameA q (loaded large dp rp q d bus ram rom)) destinations (destinationCode Dst.A) dst
     (refl, (refl, (refl, (refl, (refl, (refl, (refl, (refl, (refl, (refl, (refl, (refl, (refl, (refl, (refl, tt))))))))))))))) refl
 
-pub pc-moved-a : (rt : Bool) (q : Registers) → SameA q (pcMoved rt q)
+pub pc-moved-a : (large rt : Bool) (q : Registers) → SameA q (pcMoved large rt q)
 unfolding popped
-pc-moved-a true q = refl
-pc-moved-a false q = refl
+pc-moved-a large true q = refl
+pc-moved-a large false q = refl
 
 pub pushed-a : (r : Registers) (x : InstructionAddress) → SameA r (pushed r x)
 unfolding pushed

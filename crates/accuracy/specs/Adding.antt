@@ -6,7 +6,7 @@ use Rattle.alu.specs.Operations.{operationCode}
 use Rattle.alu.specs.declared.Operation.the-variants.{None, Add}
 use Rattle.word.specs.Fields.{select}
 use Rattle.word.specs.declared.Word.{Word}
-use Rattle.word.specs.declared.Word.the-variants.{Op, Rt, Jp, Ldi}
+use Rattle.word.specs.declared.Word.the-variants.{Op, Rt, Jp, JpCode, Ldi}
 use Rattle.word.specs.declared.OpFields.{OpFields}
 use Rattle.stages.specs.Accumulators.{choosesA}
 use Rattle.codes.specs.Codes.{isDestination}
@@ -22,6 +22,7 @@ abbrev pub addsM : Word → Bool
 addsM (Op f) = opAddsM f
 addsM (Rt f) = opAddsM f
 addsM (Jp f) = false
+addsM (JpCode f) = false
 addsM (Ldi f) = false
 
 -- a word operates on A when its operation is not none and ASL is 0
@@ -32,6 +33,7 @@ abbrev pub operatesOnA : Word → Bool
 operatesOnA (Op f) = opOperatesOnA f
 operatesOnA (Rt f) = opOperatesOnA f
 operatesOnA (Jp f) = false
+operatesOnA (JpCode f) = false
 operatesOnA (Ldi f) = false
 
 -- a word loads A when DST is A
@@ -39,6 +41,7 @@ abbrev pub loadsA : Word → Bool
 loadsA (Op f) = isDestination (f .dst) Dst.A
 loadsA (Rt f) = isDestination (f .dst) Dst.A
 loadsA (Jp f) = false
+loadsA (JpCode f) = false
 loadsA (Ldi f) = isDestination (f .dst) Dst.A
 
 -- K and L as each adding word finds them

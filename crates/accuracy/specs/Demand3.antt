@@ -1,7 +1,7 @@
 -- Demand 3 over the machine's own definitions, clause by clause in its words.
-use Prim.Native.Nat.{_≤_}
+use Prim.Native.Nat.{ℕ, _≤_}
 use mathlib.Core.Path.{_≡_}
-use mathlib.Core.Bool.{false}
+use mathlib.Core.Bool.{Bool, false}
 use mathlib.Core.List.{List}
 use lib.ListN.{length}
 use Rattle.alu.specs.Answer.{answer}
@@ -22,33 +22,35 @@ abbrev pub NoReset : Deed → Type 0
 NoReset (word w r) = Unit
 NoReset (event kind) = kind ≡ 7 → ⊥
 
-abbrev pub Unreset : Registers → List Call → Type 0
-Unreset r calls = Every NoReset (deeds r calls)
+abbrev pub Unreset : Bool → Registers → ℕ → List Call → Type 0
+Unreset large r trb calls = Every NoReset (deeds large r trb calls)
 
 -- "in which at most three words add M to A"
-abbrev pub AtMostThree : Registers → List Call → Type 0
-AtMostThree r calls = length (added (deeds r calls)) ≤ 3
+abbrev pub AtMostThree : Bool → Registers → ℕ → List Call → Type 0
+AtMostThree large r trb calls = length (added (deeds large r trb calls)) ≤ 3
 
 -- "and nothing else operates on A or loads it"
 abbrev pub NothingElse : Deed → Type 0
 NothingElse (word w r) = addsM w ≡ false → (operatesOnA w ≡ false) × (loadsA w ≡ false)
 NothingElse (event kind) = Unit
 
-abbrev pub Alone : Registers → List Call → Type 0
-Alone r calls = Every NothingElse (deeds r calls)
+abbrev pub Alone : Bool → Registers → ℕ → List Call → Type 0
+Alone large r trb calls = Every NothingElse (deeds large r trb calls)
 
 -- "and no adding word finds both multiplier inputs at -32768."
 abbrev pub NotBoth : Inputs → Type 0
 NotBoth p = BothLeast (p .k) (p .l) → ⊥
 
-abbrev pub Apart : Registers → List Call → Type 0
-Apart r calls = Every NotBoth (added (deeds r calls))
+abbrev pub Apart : Bool → Registers → ℕ → List Call → Type 0
+Apart large r trb calls = Every NotBoth (added (deeds large r trb calls))
 
 -- "Take A if OV1 is 0, else SGN. In 32768ths, the exact start plus exact products, held within -32768 to 32767 whole, is never below that answer, and above it by at most
 -- 32767 for each word added."
-abbrev pub Near : Registers → List Call → Type 0
-Near r calls = Accurate (r .a) (added (deeds r calls)) (answer (accumulatorA (after r calls)))
+abbrev pub Near : Bool → Registers → ℕ → List Call → Type 0
+Near large r trb calls = Accurate (r .a) (added (deeds large r trb calls)) (answer (accumulatorA (after large r trb calls)))
 
--- for any registers, and any calls with any images, RAM, kinds and values
+-- for either chip, any registers, and any calls with any images, RAM, kinds and values
 abbrev pub Demand3 : Type 0
-Demand3 = (r : Registers) (calls : List Call) → Clear r → Unreset r calls → AtMostThree r calls → Alone r calls → Apart r calls → Near r calls
+Demand3 =
+    (large : Bool) (r : Registers) (trb : ℕ) (calls : List Call)
+    → Clear r → Unreset large r trb calls → AtMostThree large r trb calls → Alone large r trb calls → Apart large r trb calls → Near large r trb calls
