@@ -2,6 +2,7 @@
 // The crate `cases` has them as statements about the definitions.
 mod paper;
 
+use device::Chip;
 use device::RamPointer;
 use device::Registers;
 use device::Upd77p20;
@@ -31,7 +32,7 @@ fn run(r: Registers, words: [u32; 3], count: u32, cell0: u16, cell1: u16) -> Aft
     let mut ram = [0u16; Upd77p20::RAM as usize];
     ram[0] = cell0;
     ram[1] = cell1;
-    machine::event(r, &program, &rom, &mut ram, 0, count)
+    machine::event(false, r, 0, &program, &rom, &mut ram, 0, count)
 }
 
 // One word, alone in its program.
@@ -41,7 +42,7 @@ fn run_one(r: Registers, word: u32) -> AfterEvent {
 
 // Case 1: word 0 on registers that are not 0.
 fn word_0() {
-    let mut r = Upd77p20::fresh_registers();
+    let mut r = Chip::fresh_registers();
     r.a = 0x1234;
     let dp = RamPointer(0x7f);
     r.dp = dp;
@@ -57,10 +58,10 @@ fn word_0() {
 
 // Case 2: what the two words do.
 fn jump_and_load() {
-    let jumped = run_one(Upd77p20::fresh_registers(), 0x501000);
+    let jumped = run_one(Chip::fresh_registers(), 0x501000);
     let q = jumped.registers;
     register(2, b"501000H run: PC           ", 0x100, q.pc.0);
-    let loaded = run_one(Upd77p20::fresh_registers(), 0x624681);
+    let loaded = run_one(Chip::fresh_registers(), 0x624681);
     let q = loaded.registers;
     register(2, b"624681H run: A            ", 0x1234, q.a);
 }
@@ -70,18 +71,18 @@ fn host_reads() {
     let program = [0u32; Upd77p20::WORDS as usize];
     let rom = [0u16; Upd77p20::CELLS as usize];
     let mut ram = [0u16; Upd77p20::RAM as usize];
-    let mut r = Upd77p20::fresh_registers();
+    let mut r = Chip::fresh_registers();
     r.dr = 0x1234;
-    let low = machine::event(r, &program, &rom, &mut ram, 1, 0);
+    let low = machine::event(false, r, 0, &program, &rom, &mut ram, 1, 0);
     register(9, b"DR 1234H: first byte      ", 0x34, low.value);
     let q = low.registers;
-    let high = machine::event(q, &program, &rom, &mut ram, 1, 0);
+    let high = machine::event(false, q, 0, &program, &rom, &mut ram, 1, 0);
     register(9, b"DR 1234H: second byte     ", 0x12, high.value);
 }
 
 // Case 2: what the two words hold. BRCH 4 is the jump, DST 1 is A.
 fn words() {
-    let jump = word::take_apart(0x501000);
+    let jump = word::take_apart(false, 0x501000);
     let row = jump.word;
     if let Word::Jp(f) = row {
         register(2, b"501000H: BRCH             ", 4, f.brch as u16);
@@ -89,7 +90,7 @@ fn words() {
     } else {
         text(b"  2   501000H is no JP word   DIFFERS\n");
     }
-    let load = word::take_apart(0x624681);
+    let load = word::take_apart(false, 0x624681);
     let row = load.word;
     if let Word::Ldi(f) = row {
         register(2, b"624681H: ID               ", 0x1234, f.id);
@@ -101,7 +102,7 @@ fn words() {
 
 // A after a word that adds M or N to 0.
 fn added(k: u16, l: u16, word: u32) -> u16 {
-    let mut r = Upd77p20::fresh_registers();
+    let mut r = Chip::fresh_registers();
     r.k = k;
     r.l = l;
     let after = run_one(r, word);
@@ -139,7 +140,7 @@ fn products() {
 
 // A fresh machine but for A.
 fn with_a(a: u16) -> Registers {
-    let mut r = Upd77p20::fresh_registers();
+    let mut r = Chip::fresh_registers();
     r.a = a;
     r
 }
@@ -191,7 +192,7 @@ fn shifts() {
 
 // Case 7: one word with DPL up, DPH-M 1 and RPDCR.
 fn pointers() {
-    let mut r = Upd77p20::fresh_registers();
+    let mut r = Chip::fresh_registers();
     let dp = RamPointer(0x0f);
     r.dp = dp;
     let after = run_one(r, 0x001300);
@@ -202,7 +203,7 @@ fn pointers() {
 
 // Case 8: SIL to A.
 fn reversed() {
-    let mut r = Upd77p20::fresh_registers();
+    let mut r = Chip::fresh_registers();
     r.si = 1;
     let after = run_one(r, 0x0000c1);
     let q = after.registers;
@@ -222,7 +223,7 @@ fn exact_product(k: u16, l: u16) -> u64 {
 
 // Case 10: three words that add M to A, and how far the exact sum is above A, in 32768ths.
 fn three_adds() {
-    let mut r = Upd77p20::fresh_registers();
+    let mut r = Chip::fresh_registers();
     r.k = 0xffff;
     r.l = 1;
     let after = run(r, [ADD_M, ADD_M, ADD_M], 3, 0, 0);

@@ -14,6 +14,7 @@ use Rattle.alu.proofs.Holding.{summed, wholeSum}
 use Rattle.multiplier.specs.Product.{product, mOf, nOf}
 use Rattle.device.specs.Pointers.{ramPointerMoved}
 use Rattle.device.specs.declared.registers.Registers.{Registers}
+use Rattle.word.specs.JumpCodes.{branchOf, addressOf}
 use Rattle.word.specs.Word.{wordOf, takenApart}
 use Rattle.status.specs.Status.{drc, drs, withDrs}
 use Rattle.stages.specs.Bus.{busOf}
@@ -38,8 +39,8 @@ unfolding case1
 holds1 = word-0
 
 holds2 : case2 .says
-unfolding case2 wordOf takenApart wordDone fetchedDone jpWord jpRefusal jpRegisters ldiWord ldiRefusal loaded ramLoaded
-holds2 = (refl, refl, (λ r program rom ram e. rw e), (λ r program rom ram e. rw e))
+unfolding case2 branchOf addressOf wordOf takenApart wordDone fetchedDone jpWord jpRefusal jpRegisters ldiWord ldiRefusal loaded ramLoaded
+holds2 = (refl, refl, (λ r trb program rom ram e. rw e), (λ r trb program rom ram e. rw e))
 
 holds3 : case3 .says
 unfolding case3 signed floorDiv floorMod product mOf nOf
@@ -63,7 +64,7 @@ holds7 = (refl, refl)
 
 holds8 : case8 .says
 unfolding case8 busOf reversed
-holds8 = λ r ram rom e. rw e
+holds8 = λ large r trb ram rom e. rw e
 
 -- the first access leaves DRC as it is and sets DRS
 drs-set : (sr : ℕ) → (bits (withDrs sr) 10 10 ≡ bits sr 10 10) × (bits (withDrs sr) 12 12 ≡ 1)
@@ -75,10 +76,10 @@ low-then-high r d c s = rw (c, s, d, drs-set (r .sr) .0, drs-set (r .sr) .1, c) 
 
 holds9 : case9 .says
 unfolding case9 kindDone
-holds9 = λ r program rom ram long fit d c s.
-    let first = call-done r program rom ram 1 0 long fit refl in
-    let after = event-fits r program rom ram 1 0 fit in
-    let second = call-done (eventDone r program rom ram 1 0 .registers) program rom ram 1 0 long after refl in
+holds9 = λ large r trb program rom ram long fit d c s.
+    let first = call-done large r trb program rom ram 1 0 long fit refl in
+    let after = event-fits large r trb program rom ram 1 0 fit in
+    let second = call-done large (eventDone large r trb program rom ram 1 0 .registers) (eventDone large r trb program rom ram 1 0 .trb) program rom ram 1 0 long after refl in
     let both = low-then-high r d c s in (
       sym (ap (λ x. x .number) first),
       sym (ap (λ x. x .value) first) ∙ both .0,
@@ -90,11 +91,11 @@ holds9 = λ r program rom ram long fit d c s.
 holds10 : case10 .says
 unfolding case10 signed leaves floorDiv floorMod held product mOf plus sumFlags summed wholeSum in32768ths products heldSum
 holds10 = (
-  (λ r calls clear zero unreset alone three.
-      let a = ap (λ x. x .value) (calls-mix r calls unreset alone) in
-      let n = mix-answer r calls (threeTimes 0xffff 1) clear unreset alone three (omega arith) in
+  (λ large r trb calls clear zero unreset alone three.
+      let a = ap (λ x. x .value) (calls-mix large r trb calls unreset alone) in
+      let n = mix-answer large r trb calls (threeTimes 0xffff 1) clear unreset alone three (omega arith) in
       (a ∙ rw (three, zero), rw (n, three, zero), rw three)),
-  examples .0,
+  (λ trb. (examples trb .0, examples trb .10)),
 )
 
 pub bench : Bench

@@ -1,4 +1,4 @@
--- The bench cases of 01, "Bench cases, marked to be proved", in one list. Where a case leaves a flag or an input open, it is said of every one.
+-- The bench cases of 01, "Bench cases, marked to be proved", in one list: of the smaller chip where a case names its words or sizes, else of either. Where a case leaves a flag or an input open, it is said of every one.
 use Prim.Native.Nat.{ℕ, _*_}
 use mathlib.Core.Path.{_≡_}
 use mathlib.Core.Bool.{Bool, true, false}
@@ -11,7 +11,7 @@ use Rattle.alu.specs.declared.Accumulator.{Accumulator}
 use Rattle.alu.specs.declared.Flags.{Flags}
 use Rattle.alu.specs.declared.Operation.the-variants.{Add, Shr1, Shl2, Shl4}
 use Rattle.multiplier.specs.Product.{mOf, nOf}
-use Rattle.device.specs.Device.{upd77p20}
+use Rattle.device.specs.Device.{chip, upd77p20}
 use Rattle.device.specs.Lent.{wordAt}
 use Rattle.device.specs.Registers.{registersFit}
 use Rattle.device.specs.Pointers.{nextAddress, ramPointerMoved, romPointerDown}
@@ -51,14 +51,14 @@ shows a value c ov1 s1 = (a .value ≡ value) × (a .flags .c ≡ c) × (a .flag
 abbrev pub threeTimes : ℕ → ℕ → List Inputs
 threeTimes k l = replicate 3 (record { k = k; l = l })
 
--- "Of RAM and the registers listed in this paper, word 0 changes PC only."
+-- "Of RAM and the registers listed in this paper, word 0 changes PC only.": on either chip
 unfoldable pub case1 : Case
 case1 =
     record {
       number = 1;
       says =
-          (r : Registers) (program rom ram : List ℕ) → wordAt program (r .pc) ≡ 0
-          → wordDone r program rom ram ≡ finishedWord (set-pc r (nextAddress upd77p20 (r .pc))) ram;
+          (large : Bool) (r : Registers) (trb : ℕ) (program rom ram : List ℕ) → wordAt program (r .pc) ≡ 0
+          → wordDone large r trb program rom ram ≡ finishedWord (set-pc r (nextAddress (chip large) (r .pc))) trb ram;
     }
 
 -- "501000H jumps to 100H. 624681H loads A with 1234H.": as fields, and run
@@ -67,12 +67,12 @@ case2 =
     record {
       number = 2;
       says =
-          (takenApart 0x501000 ≡ record { refusal = 0; word = Jp (record { brch = branch .jump; cnd = 0; na = 0x100; spare = 0 }) })
-          × (takenApart 0x624681 ≡ record { refusal = 0; word = Ldi (record { id = 0x1234; spare = 0; dst = destinationCode A }) })
-          × ((r : Registers) (program rom ram : List ℕ) → wordAt program (r .pc) ≡ 0x501000
-          → wordDone r program rom ram ≡ finishedWord (set-pc r (record { 0 = 0x100 })) ram)
-          × ((r : Registers) (program rom ram : List ℕ) → wordAt program (r .pc) ≡ 0x624681
-          → wordDone r program rom ram ≡ finishedWord (set-pc (set-a r 0x1234) (nextAddress upd77p20 (r .pc))) ram);
+          (takenApart false 0x501000 ≡ record { refusal = 0; word = Jp (record { brch = branch .jump; cnd = 0; na = 0x100; spare = 0 }) })
+          × (takenApart false 0x624681 ≡ record { refusal = 0; word = Ldi (record { id = 0x1234; spare = 0; dst = destinationCode A }) })
+          × ((r : Registers) (trb : ℕ) (program rom ram : List ℕ) → wordAt program (r .pc) ≡ 0x501000
+          → wordDone false r trb program rom ram ≡ finishedWord (set-pc r (record { 0 = 0x100 })) trb ram)
+          × ((r : Registers) (trb : ℕ) (program rom ram : List ℕ) → wordAt program (r .pc) ≡ 0x624681
+          → wordDone false r trb program rom ram ≡ finishedWord (set-pc (set-a r 0x1234) (nextAddress upd77p20 (r .pc))) trb ram);
     }
 
 -- "K = L = 8000H: M = 8000H, N = 0. K = FFFFH, L = 1: M = FFFFH, N = FFFEH."
@@ -128,7 +128,7 @@ case7 =
 
 -- "SIL of 1: 8000H."
 unfoldable pub case8 : Case
-case8 = record { number = 8; says = (r : Registers) (ram rom : List ℕ) → r .si ≡ 1 → busOf r Sil ram rom ≡ 0x8000 }
+case8 = record { number = 8; says = (large : Bool) (r : Registers) (trb : ℕ) (ram rom : List ℕ) → r .si ≡ 1 → busOf large r trb Sil ram rom ≡ 0x8000 }
 
 -- "DR 1234H, DRC 0, DRS 0: the host reads 34H, then 12H.": wherever what is lent and the registers fit, both reads are answered 0
 unfoldable pub case9 : Case
@@ -136,10 +136,10 @@ case9 =
     record {
       number = 9;
       says =
-          (r : Registers) (program rom ram : List ℕ) → lentFit program rom ram ≡ true → registersFit upd77p20 r ≡ true
+          (large : Bool) (r : Registers) (trb : ℕ) (program rom ram : List ℕ) → lentFit large program rom ram ≡ true → registersFit (chip large) r ≡ true
           → r .dr ≡ 0x1234 → drc (r .sr) ≡ false → drs (r .sr) ≡ false
-          → let first = eventDone r program rom ram 1 0 in
-          let second = eventDone (first .registers) program rom ram 1 0 in
+          → let first = eventDone large r trb program rom ram 1 0 in
+          let second = eventDone large (first .registers) (first .trb) program rom ram 1 0 in
           (first .number ≡ 0) × (first .value ≡ 0x34) × (second .number ≡ 0) × (second .value ≡ 0x12);
     }
 
@@ -150,9 +150,10 @@ case10 =
     record {
       number = 10;
       says =
-          ((r : Registers) (calls : List Call) → Clear r → r .a ≡ 0 → Unreset r calls → Alone r calls → added (deeds r calls) ≡ threeTimes 0xffff 1
-          → (after r calls .a ≡ 0xfffd) × (distance r calls ≡ pos 98301) × (32767 * length (added (deeds r calls)) ≡ 98301))
-          × Tight;
+          ((large : Bool) (r : Registers) (trb : ℕ) (calls : List Call) → Clear r → r .a ≡ 0 → Unreset large r trb calls → Alone large r trb calls
+          → added (deeds large r trb calls) ≡ threeTimes 0xffff 1
+          → (after large r trb calls .a ≡ 0xfffd) × (distance large r trb calls ≡ pos 98301) × (32767 * length (added (deeds large r trb calls)) ≡ 98301))
+          × ((trb : ℕ) → Tight false trb × Tight true trb);
     }
 
 unfoldable pub cases : List Case
