@@ -1,4 +1,4 @@
--- Which texts are taken, what they bring, and what the machine does with a value that is too wide.
+-- Which texts are taken, what they bring, and what the machine does with a value that is too wide. 02, E10: "E1 and E2 stay with the smaller chip".
 use mathlib.Core.Path.{_≡_}
 use mathlib.Core.Bool.{true, false}
 use mathlib.Core.List.{List, map}
@@ -45,22 +45,22 @@ InItsPlace =
 abbrev pub WordTooWide : Type 0
 WordTooWide =
     (text image : List ℕ) → let loaded = load intelHex 4 (upd77p20 .words) text image in
-    loaded .number ≡ 0 → (r : Registers) (rom ram : List ℕ) → length rom ≡ upd77p20 .cells → length ram ≡ upd77p20 .ram → registersFit upd77p20 r ≡ true
+    loaded .number ≡ 0 → (r : Registers) (trb : ℕ) (rom ram : List ℕ) → length rom ≡ upd77p20 .cells → length ram ≡ upd77p20 .ram → registersFit upd77p20 r ≡ true
     → wordLimit upd77p20 ≤ valueGiven 4 text (r .pc .0)
-    → (count : ℕ) → count < 65535 → eventDone r (loaded .image) rom ram 0 (suc count) ≡ refusedCall 4 r ram
+    → (count : ℕ) → count < 65535 → eventDone false r trb (loaded .image) rom ram 0 (suc count) ≡ refusedCall 4 r trb ram
 
 -- a word that uses the data ROM cell, and to which no refusal that stands before 7 applies
 abbrev pub Reads : Word → Type 0
-Reads word = (unusedBits word ≡ false) × (lacksSource word ≡ false) × (readsCell word ≡ true)
+Reads word = (unusedBits word ≡ false) × (lacksSource false word ≡ false) × (readsCell word ≡ true)
 
 -- ".. or 7"
 abbrev pub CellTooWide : Type 0
 CellTooWide =
     (text image : List ℕ) → let loaded = load intelHex 2 (upd77p20 .cells) text image in
-    loaded .number ≡ 0 → (r : Registers) (program ram : List ℕ) → length program ≡ upd77p20 .words → length ram ≡ upd77p20 .ram → registersFit upd77p20 r ≡ true
-    → wordAt program (r .pc) < wordLimit upd77p20 → Reads (takenApart (wordAt program (r .pc)) .word)
+    loaded .number ≡ 0 → (r : Registers) (trb : ℕ) (program ram : List ℕ) → length program ≡ upd77p20 .words → length ram ≡ upd77p20 .ram → registersFit upd77p20 r ≡ true
+    → wordAt program (r .pc) < wordLimit upd77p20 → Reads (takenApart false (wordAt program (r .pc)) .word)
     → cellLimit upd77p20 ≤ valueGiven 2 text (r .rp .0)
-    → (count : ℕ) → count < 65535 → eventDone r program (loaded .image) ram 0 (suc count) ≡ refusedCall 7 r ram
+    → (count : ℕ) → count < 65535 → eventDone false r trb program (loaded .image) ram 0 (suc count) ≡ refusedCall 7 r trb ram
 
 -- and there are such texts, for a program and for a data ROM
 abbrev pub TakesWide : ℕ → ℕ → ℕ → Type 0
