@@ -1,5 +1,6 @@
 /*
- * bemulatsho.h: a software copy of NEC's uPD7720A / uPD77P20 signal processor.
+ * bemulatsho.h: a software copy of NEC's uPD7720A / uPD77P20 signal processor, and of its
+ * larger sister, the uPD77C25.
  *
  * Link with libbemulatsho.a: x86-64, System V calling convention, C11 or C++17.
  *
@@ -43,6 +44,10 @@
  * done is refused by a number. "Refusal 2" is the number 2 of enum bemulatsho_number.
  * Numbers that end in H are hexadecimal. Bits count from 0, the lowest. A mark or flag is
  * 1 when its bool is true.
+ *
+ * All this is of the 77P20. The 77C25 has calls of its own, whose names begin with
+ * bemulatsho_77c25; they take the same events and give the same numbers. What differs
+ * there is said after its name, and where those calls stand.
  */
 #ifndef BEMULATSHO_H
 #define BEMULATSHO_H
@@ -59,13 +64,14 @@ extern "C" {
 
 /* The version that this header describes. It goes up when a caller has to change.
    2: an accepted interrupt has words 2 in its reply; in version 1 it had 0.
-   3: a word with unused bits set is refused with 18 when it runs; before, it ran. */
+   3: a word with unused bits set is refused with 18 when it runs; before, it ran.
+   What is only added does not raise it: the calls of the 77C25 came within 3. */
 #define BEMULATSHO_VERSION 3u
 
 /* The version of the library. Compare it with BEMULATSHO_VERSION once, at the start. */
 uint32_t bemulatsho_version(void);
 
-/* ---- sizes of the chip, unsigned */
+/* ---- sizes of the chip, unsigned (those of the 77C25 stand with its calls) */
 
 #define BEMULATSHO_WORDS 512u           /* instruction words of a program */
 #define BEMULATSHO_WORD_LIMIT 0x800000u /* a word has 23 bits: it is below this, 2^23 */
@@ -109,9 +115,10 @@ struct bemulatsho_both_flags {
 };
 
 /*
- * The machine record. The caller may read and set every field between calls; a record
- * that the chip could not hold is refused at the next call, as said at each field. PC and
- * the stack cells count words, DP points at RAM, RP at data ROM.
+ * The machine record; that of the 77C25 has it within. The caller may read and set every
+ * field between calls; a record that the chip could not hold is refused at the next call,
+ * as said at each field. PC and the stack cells count words, DP points at RAM, RP at data
+ * ROM.
  *
  * Take a record from bemulatsho_fresh_registers and set its fields by name; in C,
  * designated initialisers do as well, since what they do not name is 0. Never fill a
@@ -119,11 +126,13 @@ struct bemulatsho_both_flags {
  * record has no padding: two may be compared by memcmp.
  */
 struct bemulatsho_registers {
-    uint16_t pc;     /* PC, 9 bits: the word to run next. 512 or more: refusal 2 */
-    uint16_t stack0; /* stack cell 0, 9 bits: where to return. 512 or more: refusal 2 */
-    uint16_t stack1; /* stack cell 1, 9 bits. 512 or more: refusal 2 */
-    uint16_t stack2; /* stack cell 2, 9 bits. 512 or more: refusal 2 */
-    uint16_t stack3; /* stack cell 3, 9 bits. 512 or more: refusal 2 */
+    uint16_t pc;     /* PC, 9 bits (77C25: 11): the word to run next. 512 or more (77C25:
+                        2048 or more): refusal 2 */
+    uint16_t stack0; /* stack cell 0, 9 bits (77C25: 11): where to return. 512 or more
+                        (77C25: 2048 or more): refusal 2 */
+    uint16_t stack1; /* stack cell 1, as wide. 512 (77C25: 2048) or more: refusal 2 */
+    uint16_t stack2; /* stack cell 2, as wide. 512 (77C25: 2048) or more: refusal 2 */
+    uint16_t stack3; /* stack cell 3, as wide. 512 (77C25: 2048) or more: refusal 2 */
     struct bemulatsho_both_flags flags; /* S1 S0 C Z OV1 OV0 for A and again for B */
     uint16_t si;     /* SI, 16 bits: the last serial word in */
     bool siack;      /* SIACK, 1 bit: a serial word is in and SIM, SIL have not read it */
@@ -137,8 +146,10 @@ struct bemulatsho_registers {
     uint16_t tr;     /* TR, 16 bits: temporary register */
     uint16_t dr;     /* DR, 16 bits: data register, between program and host */
     uint16_t so;     /* SO, 16 bits: the serial word out */
-    uint16_t dp;     /* DP, 7 bits: a RAM cell. 128 or more: refusal 2 */
-    uint16_t rp;     /* RP, 9 bits: a data ROM cell. 512 or more: refusal 2 */
+    uint16_t dp;     /* DP, 7 bits (77C25: 8): a RAM cell. 128 or more (77C25: 256 or
+                        more): refusal 2 */
+    uint16_t rp;     /* RP, 9 bits (77C25: 10): a data ROM cell. 512 or more (77C25: 1024
+                        or more): refusal 2 */
     uint16_t sr;     /* SR, 16 bits: status. Bits 6 to 2 not 0: refusal 2 */
     bool soack;      /* SOACK, 1 bit: the serial word out was taken (the manual has the
                         opposite sense); cleared when a word stores SO */
@@ -193,7 +204,7 @@ enum bemulatsho_kind {
        9, with words 0. */
     BEMULATSHO_EVENT_INTERRUPT = 6,
     /* value 0: reset: PC, depth, flags, SR, SORQ, SIACK, SOACK to 0. It leaves A, B, K,
-       L, TR, DR, SI, SO, DP, RP, the four stack cells and RAM. */
+       L, TR, DR, SI, SO, DP, RP, the four stack cells and RAM, and TRB of the 77C25. */
     BEMULATSHO_EVENT_RESET = 7
 };
 
@@ -210,15 +221,17 @@ struct bemulatsho_event {
  * bemulatsho_writing, refusal in bemulatsho_taken_rows and bemulatsho_built. Each is
  * given exactly when its line says; where several apply, the first of 1, 2, 3, 4, 5, 18,
  * 6, 7, 8, 9, 10; of a text, that of the first faulty record. An event call gives 0 to 10
- * or 18, bemulatsho_take_apart 0 or 4, bemulatsho_build 0 or 11, a load 0, 1 or 12 to 16,
- * bemulatsho_read_record 0 or 12 to 14, bemulatsho_write_preset 0 or 1.
+ * or 18 (77C25: neither 6 nor 7), bemulatsho_take_apart 0 or 4, bemulatsho_build 0 or 11,
+ * a load 0, 1 or 12 to 16, bemulatsho_read_record 0 or 12 to 14, bemulatsho_write_preset
+ * 0 or 1.
  */
 enum bemulatsho_number {
     /* done */
     BEMULATSHO_DONE = 0,
-    /* a lent image or RAM is not 512, 512, 128 long. In the order of the call: program,
-       data ROM, RAM. Of a load: a lent image of the wrong length, before the rest. Of a
-       preset that is written: also a buffer shorter than the text. */
+    /* a lent image or RAM is not 512, 512, 128 long (77C25: 2048, 1024, 256). In the
+       order of the call: program, data ROM, RAM. Of a load: a lent image of the wrong
+       length, before the rest. Of a preset that is written: also a buffer shorter than
+       the text. */
     BEMULATSHO_REFUSED_LENGTH = 1,
     /* PC, a stack cell, DP or RP too wide, depth over 4, or SR bits 6 to 2 not 0. All
        four stack cells count, at any depth. Every kind is refused, also a reset. */
@@ -226,14 +239,15 @@ enum bemulatsho_number {
     /* event kind over 7, or value not allowed. A negative sample that was widened without
        (uint16_t) is not allowed. */
     BEMULATSHO_REFUSED_EVENT = 3,
-    /* fetched word 2^23 or more (also when one is taken apart) */
+    /* fetched word 2^23 or more (also when one is taken apart). 77C25: 2^24 or more */
     BEMULATSHO_REFUSED_WORD = 4,
-    /* BRCH none of 010, 100, 101 */
+    /* BRCH none of 010, 100, 101. 77C25: a jump code that the data book does not list */
     BEMULATSHO_REFUSED_BRANCH = 5,
     /* SRC none in an OP or RT word, and either DST is not 0 or 14, or the ALU operation
-       is 1 to 7 with P-select bus */
+       is 1 to 7 with P-select bus. 77C25: never, since source 0 is TRB */
     BEMULATSHO_REFUSED_SOURCE = 6,
-    /* SRC is RO, or DST is KLR (LDI too), and the data ROM cell at RP is 8192 or more */
+    /* SRC is RO, or DST is KLR (LDI too), and the data ROM cell at RP is 8192 or more.
+       77C25: never, since a cell has 16 bits */
     BEMULATSHO_REFUSED_CELL = 7,
     /* RT at depth 0 */
     BEMULATSHO_REFUSED_RETURN = 8,
@@ -258,8 +272,9 @@ enum bemulatsho_number {
        no address is missing. */
     BEMULATSHO_REFUSED_END = 16,
     /* unused bits set in a fetched word. Words taken from an image for running must have
-       spare bits 0, and CND 0 under an unconditional jump or a call. They are taken apart
-       and built all the same. */
+       spare bits 0, and CND 0 under an unconditional jump or a call. 77C25: spare bits 0,
+       and no more, since jump and condition are one code there. They are taken apart and
+       built all the same. */
     BEMULATSHO_REFUSED_UNUSED = 18
 };
 
@@ -310,9 +325,10 @@ struct bemulatsho_reply bemulatsho_event_in_place(
 
 /* ---- words */
 
-/* The rows of a word, by its bits D22-21; D22 is the top bit. */
+/* The rows of a word, by its bits D22-21; D22 is the top bit (77C25: D23-22, D23). */
 enum bemulatsho_row {
-    /* 00: a move, an operation and steps of the pointers; PC goes up by one, 511 to 0 */
+    /* 00: a move, an operation and steps of the pointers; PC goes up by one, 511 to 0
+       (77C25: 2047 to 0) */
     BEMULATSHO_ROW_OP = 0,
     /* 01: as OP, but PC is popped */
     BEMULATSHO_ROW_RT = 1,
@@ -413,7 +429,115 @@ struct bemulatsho_taken_rows bemulatsho_take_apart(uint32_t word);
  */
 struct bemulatsho_built bemulatsho_build(struct bemulatsho_rows rows);
 
-/* ---- images and presets from text, and presets as text */
+/* ---- the uPD77C25 */
+
+#define BEMULATSHO_77C25_WORDS 2048u           /* instruction words of a program */
+#define BEMULATSHO_77C25_WORD_LIMIT 0x1000000u /* a word has 24 bits: below this, 2^24 */
+#define BEMULATSHO_77C25_CELLS 1024u           /* data ROM cells, of 16 bits each */
+#define BEMULATSHO_77C25_RAM 256u              /* RAM cells, of 16 bits each */
+#define BEMULATSHO_77C25_STACK 4u              /* stack cells */
+
+/*
+ * A program is an array of uint32_t as for the 77P20, the word in the low 24 bits. A cell
+ * of the data ROM is a full uint16_t: every value may stand there and is used as it is.
+ */
+
+/*
+ * The machine record of the 77C25: the registers of the 77P20, of which PC, the stack
+ * cells, DP and RP are wider, and TRB. It has no padding either.
+ */
+struct bemulatsho_77c25_registers {
+    struct bemulatsho_registers registers; /* all the others */
+    uint16_t trb; /* TRB, 16 bits: second temporary register. Any value is accepted, and a
+                     reset leaves it */
+};
+
+/* A machine that has run nothing: every register, flag and mark 0, and TRB too. */
+struct bemulatsho_77c25_registers bemulatsho_77c25_fresh_registers(void);
+
+/*
+ * One event on the 77C25: as bemulatsho_event_in_place, with the sizes of this chip. What
+ * is said there of refused calls, lengths, lending and duties holds here. Of the refusals
+ * of an event 6 and 7 never occur.
+ */
+struct bemulatsho_reply bemulatsho_77c25_event_in_place(
+    struct bemulatsho_77c25_registers *registers,
+    const uint32_t *program, size_t program_length, /* BEMULATSHO_77C25_WORDS */
+    const uint16_t *rom, size_t rom_length,         /* BEMULATSHO_77C25_CELLS */
+    uint16_t *ram, size_t ram_length,               /* BEMULATSHO_77C25_RAM */
+    struct bemulatsho_event event);
+
+/*
+ * The words of the 77C25 have the same rows. The fields of OP, RT and LDI are the same
+ * too, and mean the same but for what is said below; they stand at other places:
+ *
+ *               77P20     77C25
+ *     row       D22-21    D23-22
+ *     psel      D20-19    D21-20
+ *     alu       D18-15    D19-16
+ *     asl       D14       D15
+ *     dpl       D13-12    D14-13
+ *     dphm      D11-9     D12-9     four bits here
+ *     rpdcr     D8        D8
+ *     src       D7-4      D7-4
+ *     dst       D3-0      D3-0      of LDI too
+ *     id        D20-5     D21-6
+ *     spare     D4        D5-4      of LDI; two bits here
+ *
+ * Source 0 is TRB, also where the assembler would write NON, and destination 14 is TRB,
+ * of LDI too. DP and RP stand in the low 8 and 10 bits of the bus, and take as many. RO
+ * is the data ROM cell at RP as it is, not times 8, and so is L under KLR. KLM: K from the
+ * RAM cell whose address is DP with bit 6 set to 1 and bit 7 kept, one of 64 to 127 or
+ * 192 to 255. DPH-M is exclusive-ored into bits 7 to 4 of DP. RPDCR takes one from RP, 0
+ * to 1023.
+ */
+
+/*
+ * The fields of a JP word of the 77C25, where jump and condition are one code. The data
+ * book (section 2, uPD77C25, table 14) lists 36 of them:
+ *
+ *     100H           jump
+ *     140H           call (pushes PC plus one, 0 from 2047)
+ *     80H + 2 CND    jump on CND, 0 to 31 as in bemulatsho_jp_fields: 80H, 82H to 0BEH
+ *     0B1H           jump if low DP is not 0
+ *     0B3H           jump if low DP is not 15
+ */
+struct bemulatsho_code_fields {
+    uint16_t code; /* D21-13, the code, 9 bits. None of the 36: refusal 5 when the word
+                      runs */
+    uint16_t na;   /* D12-2, NA: the word to go to, 11 bits */
+    uint8_t spare; /* D1-0: not 0 with one of the 36 codes: refusal 18 when the word
+                      runs */
+};
+
+/* A word of the 77C25 by its fields, as bemulatsho_rows. */
+struct bemulatsho_77c25_rows {
+    uint8_t row; /* enum bemulatsho_row */
+    struct bemulatsho_op_fields op;
+    struct bemulatsho_code_fields jp;
+    struct bemulatsho_ldi_fields ldi;
+};
+
+struct bemulatsho_77c25_taken_rows {
+    uint8_t refusal; /* enum bemulatsho_number, as number in a reply: 0 done, else 4 */
+    struct bemulatsho_77c25_rows rows;
+};
+
+/*
+ * The row and the fields of a word of the 77C25. A word of 2^24 or more: refusal 4, with
+ * row 0 and every field 0. A word that would be refused when it runs is taken apart all
+ * the same.
+ */
+struct bemulatsho_77c25_taken_rows bemulatsho_77c25_take_apart(uint32_t word);
+
+/*
+ * The word that the fields of its row make on the 77C25. It undoes
+ * bemulatsho_77c25_take_apart for every word below 2^24. A field of its row too wide for
+ * its bits, or a row over 3: refusal 11, with word 0.
+ */
+struct bemulatsho_built bemulatsho_77c25_build(struct bemulatsho_77c25_rows rows);
+
+/* ---- images and presets from text, and presets as text; of the 77P20 alone */
 
 /*
  * A program, a data ROM or a preset, which is what a RAM holds, is kept as a text of Intel
@@ -551,14 +675,15 @@ struct bemulatsho_record bemulatsho_read_record(const uint8_t *line, size_t line
  * Padding, by the offsets below:
  *
  *     flags, both_flags, registers, event, op_fields, ldi_fields    none
- *     reply         1 byte after number
- *     jp_fields     1 byte at the end
- *     rows          1 byte before jp, besides that of jp
- *     taken_rows    1 byte after refusal, besides those of rows
- *     built         3 bytes after refusal
- *     loading       7 bytes after number
- *     writing       7 bytes after number
- *     record        3 bytes after bytes
+ *     77c25_registers                none
+ *     reply                          1 byte after number
+ *     jp_fields, code_fields         1 byte at the end
+ *     rows, 77c25_rows               1 byte before jp, besides that of jp
+ *     taken_rows, 77c25_taken_rows   1 byte after refusal, besides those of rows
+ *     built                          3 bytes after refusal
+ *     loading                        7 bytes after number
+ *     writing                        7 bytes after number
+ *     record                         3 bytes after bytes
  *
  * Padding means nothing and may hold anything. Records of a kind without padding may be
  * compared by memcmp; the others field by field.
@@ -656,6 +781,25 @@ BEMULATSHO_OFFSET(taken_rows, rows, 2);
 BEMULATSHO_SIZE(built, 8);
 BEMULATSHO_OFFSET(built, refusal, 0);
 BEMULATSHO_OFFSET(built, bits, 4);
+
+BEMULATSHO_SIZE(77c25_registers, 50);
+BEMULATSHO_OFFSET(77c25_registers, registers, 0);
+BEMULATSHO_OFFSET(77c25_registers, trb, 48);
+
+BEMULATSHO_SIZE(code_fields, 6);
+BEMULATSHO_OFFSET(code_fields, code, 0);
+BEMULATSHO_OFFSET(code_fields, na, 2);
+BEMULATSHO_OFFSET(code_fields, spare, 4);
+
+BEMULATSHO_SIZE(77c25_rows, 20);
+BEMULATSHO_OFFSET(77c25_rows, row, 0);
+BEMULATSHO_OFFSET(77c25_rows, op, 1);
+BEMULATSHO_OFFSET(77c25_rows, jp, 10);
+BEMULATSHO_OFFSET(77c25_rows, ldi, 16);
+
+BEMULATSHO_SIZE(77c25_taken_rows, 22);
+BEMULATSHO_OFFSET(77c25_taken_rows, refusal, 0);
+BEMULATSHO_OFFSET(77c25_taken_rows, rows, 2);
 
 BEMULATSHO_SIZE(loading, 16);
 BEMULATSHO_OFFSET(loading, number, 0);

@@ -1,4 +1,3 @@
-pub mod InPlace
 pub mod Rows
 pub mod RecordInLine
 pub mod RoundTrip

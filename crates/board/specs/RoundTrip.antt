@@ -1,7 +1,7 @@
 -- Demand 2 in the form that C holds: taking apart and building "undo each other for every 23-bit word".
 use Prim.Native.Nat.{ℕ, _<_}
 use mathlib.Core.Path.{_≡_}
-use mathlib.Core.Bool.{true}
+use mathlib.Core.Bool.{true, false}
 use Rattle.device.specs.Device.{upd77p20, wordLimit}
 use Rattle.word.specs.Word.{wordHolds}
 use Rattle.word.specs.declared.Word.{Word}
@@ -11,4 +11,4 @@ abbrev pub RowsTakenThenBuilt : Type 0
 RowsTakenThenBuilt = (w : ℕ) → w < wordLimit upd77p20 → builtRows (takenRows w .rows) ≡ record { refusal = 0; bits = w }
 
 abbrev pub RowsBuiltThenTaken : Type 0
-RowsBuiltThenTaken = (word : Word) → wordHolds word ≡ true → takenRows (builtRows (rowsOf word) .bits) ≡ record { refusal = 0; rows = rowsOf word }
+RowsBuiltThenTaken = (word : Word) → wordHolds false word ≡ true → takenRows (builtRows (rowsOf word) .bits) ≡ record { refusal = 0; rows = rowsOf word }

@@ -1,14 +1,15 @@
 -- Each function of the library leaves one answer: two that meet its contract are equal.
 use Prim.Native.Nat.{ℕ}
 use mathlib.Core.Path.{_≡_}
+use mathlib.Core.Bool.{false}
 use mathlib.Core.List.{List}
 use Rattle.device.specs.declared.registers.Registers.{Registers}
 use Rattle.word.specs.declared.Built.{Built}
 use Rattle.machine.specs.Events.{eventDone}
-use Rattle.board.specs.InPlace.{endingInPlace}
+use Rattle.machine.specs.Replies.{endingInPlace}
 use Rattle.board.specs.Rows.{takenRows, builtRows}
 use Rattle.board.specs.RecordInLine.{recordInLine}
-use Rattle.board.specs.declared.Reply.{Reply}
+use Rattle.machine.specs.declared.replies.Reply.{Reply}
 use Rattle.board.specs.declared.Rows.{Rows}
 use Rattle.board.specs.declared.TakenRows.{TakenRows}
 use Rattle.board.specs.declared.texts.Record.{Record}
@@ -17,7 +18,7 @@ use Rattle.board.specs.declared.texts.Record.{Record}
 abbrev pub OneReply : Type 0
 OneReply =
     (r : Registers) (program rom ram : List ℕ) (kind value : ℕ) (x y : Reply) (q₁ q₂ : Registers) (ram₁ ram₂ : List ℕ)
-    → endingInPlace x q₁ ram₁ ≡ eventDone r program rom ram kind value → endingInPlace y q₂ ram₂ ≡ eventDone r program rom ram kind value
+    → endingInPlace x q₁ 0 ram₁ ≡ eventDone false r 0 program rom ram kind value → endingInPlace y q₂ 0 ram₂ ≡ eventDone false r 0 program rom ram kind value
     → (x ≡ y) × (q₁ ≡ q₂) × (ram₁ ≡ ram₂)
 
 -- `bemulatsho_take_apart` and `bemulatsho_build`

@@ -1,17 +1,19 @@
-// The desk's library: the machine in the caller's record, words taken apart and built, images and presets from texts and back, under C names.
+// The uPD77P20 of the desk's library: the machine in the caller's record, words taken apart and built, images and presets from texts and back, under C names.
 // include/bemulatsho.h is its header.
 ghost use mathlib.Core.Path.{_≡_};
+ghost use mathlib.Core.Bool.{false};
 ghost use Rattle.device.specs.Registers.{freshRegisters};
 ghost use Rattle.machine.specs.Events.{eventDone};
-ghost use Rattle.word.specs.Fields.{opFields, jpFields, ldiFields};
-ghost use Rattle.board.specs.InPlace.{endingInPlace};
+ghost use Rattle.machine.specs.Replies.{endingInPlace};
 ghost use Rattle.board.specs.Rows.{takenRows, builtRows};
 
 mod presets;
 mod texts;
 
+use device::Chip;
 use device::Registers;
-use device::Upd77p20;
+use machine::Event;
+use machine::Reply;
 use word::Built;
 use word::JpFields;
 use word::LdiFields;
@@ -19,19 +21,6 @@ use word::OpFields;
 use word::Word;
 
 // ---- events
-
-#[repr(C)]
-pub struct Event {
-    pub kind: u32,
-    pub value: u32,
-}
-
-#[repr(C)]
-pub struct Reply {
-    pub number: u8,
-    pub words: u16,
-    pub value: u16,
-}
 
 #[repr(C)]
 pub struct AfterCall {
@@ -47,9 +36,18 @@ fn by_value(
     ram: &mut [u16],
     event: Event,
 ) -> AfterCall
-    ensures { λ x. ⌜ endingInPlace (x .reply) (x .registers) (now (ram .exit)) ≡ eventDone registers (now (program .entry)) (now (rom .entry)) (now (ram .entry)) (event .kind) (event .value) ⌝ }
+    ensures { λ x. ⌜ endingInPlace (x .reply) (x .registers) 0 (now (ram .exit)) ≡ eventDone false registers 0 (now (program .entry)) (now (rom .entry)) (now (ram .entry)) (event .kind) (event .value) ⌝ }
 {
-    let done = machine::event(registers, program, rom, ram, event.kind, event.value);
+    let done = machine::event(
+        false,
+        registers,
+        0,
+        program,
+        rom,
+        ram,
+        event.kind,
+        event.value,
+    );
     let after = done.registers;
     AfterCall {
         registers: after,
@@ -70,7 +68,7 @@ pub extern "C" fn bemulatsho_event_in_place(
     ram: &mut [u16],
     event: Event,
 ) -> Reply
-    ensures { λ x. ⌜ endingInPlace x (now (registers .exit)) (now (ram .exit)) ≡ eventDone (now (registers .entry)) (now (program .entry)) (now (rom .entry)) (now (ram .entry)) (event .kind) (event .value) ⌝ }
+    ensures { λ x. ⌜ endingInPlace x (now (registers .exit)) 0 (now (ram .exit)) ≡ eventDone false (now (registers .entry)) 0 (now (program .entry)) (now (rom .entry)) (now (ram .entry)) (event .kind) (event .value) ⌝ }
 {
     let before = *registers;
     let a = by_value(before, program, rom, ram, event);
@@ -83,7 +81,7 @@ pub extern "C" fn bemulatsho_event_in_place(
 pub extern "C" fn bemulatsho_fresh_registers() -> Registers
     ensures { λ r. ⌜ r ≡ freshRegisters ⌝ }
 {
-    Upd77p20::fresh_registers()
+    Chip::fresh_registers()
 }
 
 // The version of this interface: it goes up when a caller has to change.
@@ -111,47 +109,11 @@ pub struct TakenRows {
     pub rows: Rows,
 }
 
-fn no_op() -> OpFields
-    ensures { λ r. ⌜ r ≡ opFields 0 ⌝ }
-{
-    OpFields {
-        psel: 0,
-        alu: 0,
-        asl: 0,
-        dpl: 0,
-        dphm: 0,
-        rpdcr: 0,
-        src: 0,
-        dst: 0,
-    }
-}
-
-fn no_jp() -> JpFields
-    ensures { λ r. ⌜ r ≡ jpFields 0 ⌝ }
-{
-    JpFields {
-        brch: 0,
-        cnd: 0,
-        na: 0,
-        spare: 0,
-    }
-}
-
-fn no_ldi() -> LdiFields
-    ensures { λ r. ⌜ r ≡ ldiFields 0 ⌝ }
-{
-    LdiFields {
-        id: 0,
-        spare: 0,
-        dst: 0,
-    }
-}
-
 #[no_mangle]
 pub extern "C" fn bemulatsho_take_apart(word: u32) -> TakenRows
     ensures { λ r. ⌜ r ≡ takenRows word ⌝ }
 {
-    let taken = word::take_apart(word);
+    let taken = word::take_apart(false, word);
     let refusal = taken.refusal;
     let row = taken.word;
     match row {
@@ -160,8 +122,8 @@ pub extern "C" fn bemulatsho_take_apart(word: u32) -> TakenRows
             rows: Rows {
                 row: 0,
                 op: f,
-                jp: no_jp(),
-                ldi: no_ldi(),
+                jp: word::no_jp(),
+                ldi: word::no_ldi(),
             },
         },
         Word::Rt(f) => TakenRows {
@@ -169,25 +131,35 @@ pub extern "C" fn bemulatsho_take_apart(word: u32) -> TakenRows
             rows: Rows {
                 row: 1,
                 op: f,
-                jp: no_jp(),
-                ldi: no_ldi(),
+                jp: word::no_jp(),
+                ldi: word::no_ldi(),
             },
         },
         Word::Jp(f) => TakenRows {
             refusal,
             rows: Rows {
                 row: 2,
-                op: no_op(),
+                op: word::no_op(),
                 jp: f,
-                ldi: no_ldi(),
+                ldi: word::no_ldi(),
+            },
+        },
+        // Not a row of this chip, whose taker never hands it.
+        Word::JpCode(_) => TakenRows {
+            refusal,
+            rows: Rows {
+                row: 4,
+                op: word::no_op(),
+                jp: word::no_jp(),
+                ldi: word::no_ldi(),
             },
         },
         Word::Ldi(f) => TakenRows {
             refusal,
             rows: Rows {
                 row: 3,
-                op: no_op(),
-                jp: no_jp(),
+                op: word::no_op(),
+                jp: word::no_jp(),
                 ldi: f,
             },
         },
@@ -203,10 +175,10 @@ pub extern "C" fn bemulatsho_build(rows: Rows) -> Built
     let jp = rows.jp;
     let ldi = rows.ldi;
     match row {
-        0 => word::build(Word::Op(op)),
-        1 => word::build(Word::Rt(op)),
-        2 => word::build(Word::Jp(jp)),
-        3 => word::build(Word::Ldi(ldi)),
+        0 => word::build(false, Word::Op(op)),
+        1 => word::build(false, Word::Rt(op)),
+        2 => word::build(false, Word::Jp(jp)),
+        3 => word::build(false, Word::Ldi(ldi)),
         _ => Built {
             refusal: 11,
             bits: 0,

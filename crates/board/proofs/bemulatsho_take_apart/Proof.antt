@@ -19,10 +19,15 @@ returns-3 c = rw (← (c .before .before .before .before .before .take-apart .en
 
 returns-4 : tie.Need-returns-4
 unfolding takenRows
-returns-4 c = rw (← (c .before .before .before .before .before .take-apart .ensures), c .before .before .before .row4 .given .1, c .before .no-op2 .ensures, c .no-jp3 .ensures)
+returns-4 c = rw (← (c .before .before .before .before .before .take-apart .ensures), c .before .before .before .enum-told .given .1, c .before .before .no-op2 .ensures, c .before .no-jp3 .ensures, c .no-ldi4 .ensures)
+
+returns-5 : tie.Need-returns-5
+unfolding takenRows
+returns-5 c = rw (← (c .before .before .before .before .before .take-apart .ensures), c .before .before .before .row4 .given .1, c .before .no-op3 .ensures, c .no-jp4 .ensures)
 
 pub bemulatsho-take-apart-spec : {M : Type 1} → statement M
 bemulatsho-take-apart-spec =
-    tie.close (tie.spec (λ c κs. search needs) (λ c. search needs) (λ c κs. search needs) (λ c κs. search needs) (λ c. search needs)
-    (λ c κs. search needs) (λ c κs. search needs) (λ c. search needs) (λ c κs. search needs) (λ c κs. search needs) (λ c. search needs)
-    (λ c κs. search needs) (λ c κs. search needs) returns returns-2 returns-3 returns-4)
+    tie.close (tie.spec (λ c κs. search needs) (λ c. search needs) (λ c κs. search needs) (λ c κs. search needs)
+    (λ c. search needs) (λ c κs. search needs) (λ c κs. search needs) (λ c. search needs) (λ c κs. search needs)
+    (λ c κs. search needs) (λ c. search needs) (λ c κs. search needs) (λ c κs. search needs) (λ c κs. search needs)
+    (λ c. search needs) (λ c κs. search needs) (λ c κs. search needs) returns returns-2 returns-3 returns-4 returns-5)

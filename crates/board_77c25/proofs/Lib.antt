@@ -1,0 +1,2 @@
+pub mod LargeRoundTrip
+pub mod LargeUnique

@@ -1,0 +1,4 @@
+pub mod LargeRegisters
+pub mod LargeRows
+pub mod LargeRoundTrip
+pub mod LargeUnique
