@@ -1,10 +1,12 @@
 //! The bus: what a source puts on it, and what reading the source changes.
 
 use crate::bits::{reversed, to_register};
+use crate::chip::Chip;
 use crate::registers::Registers;
 use crate::status;
 
-pub const NONE: u8 = 0;
+/// None on the 77P20, TRB on the 77C25.
+pub const NONE_OR_TRB: u8 = 0;
 pub const A: u8 = 1;
 pub const B: u8 = 2;
 pub const TR: u8 = 3;
@@ -23,14 +25,14 @@ pub const MEM: u8 = 15;
 
 /// The bus value of a source. Nobody sees the 0 that stands for "none": refusal 6 turns away every word that would use it.
 #[inline]
-pub fn value(registers: &Registers, rom: &[u16], ram: &[u16], src: u8) -> u16 {
+pub fn value(chip: Chip, registers: &Registers, rom: &[u16], ram: &[u16], src: u8) -> u16 {
     match src {
         A => registers.a,
         B => registers.b,
         TR => registers.tr,
         DP => registers.dp,
         RP => registers.rp,
-        RO => rom_times_8(registers, rom),
+        RO => rom_output(chip, registers, rom),
         SGN if registers.flags_a.s1 => 0x7fff,
         SGN => 0x8000,
         DR | DRNF => registers.dr,
@@ -40,13 +42,27 @@ pub fn value(registers: &Registers, rom: &[u16], ram: &[u16], src: u8) -> u16 {
         K => registers.k,
         L => registers.l,
         MEM => ram[usize::from(registers.dp)],
-        _ => 0,
+        _ => match chip {
+            Chip::Upd77p20 => 0,
+            Chip::Upd77c25 => registers.trb,
+        },
     }
 }
 
-/// The data ROM cell at RP times 8: its 13 bits at the top of a 16-bit register.
-pub fn rom_times_8(registers: &Registers, rom: &[u16]) -> u16 {
-    to_register(i64::from(rom[usize::from(registers.rp)]) * 8)
+/// Whether a source puts nothing on the bus.
+#[inline]
+pub fn is_none(chip: Chip, src: u8) -> bool {
+    match chip {
+        Chip::Upd77p20 => src == NONE_OR_TRB,
+        Chip::Upd77c25 => false,
+    }
+}
+
+/// The data ROM cell at RP, with its bits at the top of a 16-bit register: 13 bits times 8, 16 bits as they are.
+#[inline]
+pub fn rom_output(chip: Chip, registers: &Registers, rom: &[u16]) -> u16 {
+    let cell = i64::from(rom[usize::from(registers.rp)]);
+    to_register(cell << (16 - chip.sizes().cell_bits))
 }
 
 /// What follows from having been a source.

@@ -1,36 +1,83 @@
-//! The 32 conditions of a jump.
+//! What a jump can ask about, and the 32 conditions of the 77P20.
 
 use crate::registers::Registers;
 use crate::status;
 
-/// Whether condition `cnd` holds. All but 24 and 25 run in pairs: the even one asks "is 0", the odd one "is 1".
-pub fn holds(registers: &Registers, cnd: u8) -> bool {
+#[derive(Clone, Copy, Debug, PartialEq, Eq)]
+pub enum Asked {
+    Ca,
+    Cb,
+    Za,
+    Zb,
+    Ova0,
+    Ovb0,
+    Ova1,
+    Ovb1,
+    Sa0,
+    Sb0,
+    Sa1,
+    Sb1,
+    LowDpIs0,
+    LowDpIs15,
+    Siack,
+    Soack,
+    Rqm,
+}
+
+/// The answer at this moment.
+#[inline]
+pub fn answer(registers: &Registers, asked: Asked) -> bool {
+    let (a, b) = (&registers.flags_a, &registers.flags_b);
     let low_dp = registers.dp & 0x0f;
-    match cnd {
-        24 => low_dp == 0,
-        25 => low_dp == 15,
-        _ => asked(registers, cnd / 2) == (cnd % 2 == 1),
+    match asked {
+        Asked::Ca => a.c,
+        Asked::Cb => b.c,
+        Asked::Za => a.z,
+        Asked::Zb => b.z,
+        Asked::Ova0 => a.ov0,
+        Asked::Ovb0 => b.ov0,
+        Asked::Ova1 => a.ov1,
+        Asked::Ovb1 => b.ov1,
+        Asked::Sa0 => a.s0,
+        Asked::Sb0 => b.s0,
+        Asked::Sa1 => a.s1,
+        Asked::Sb1 => b.s1,
+        Asked::LowDpIs0 => low_dp == 0,
+        Asked::LowDpIs15 => low_dp == 15,
+        Asked::Siack => registers.siack,
+        Asked::Soack => registers.soack,
+        Asked::Rqm => registers.sr & status::RQM != 0,
     }
 }
 
-/// What a pair of conditions asks about.
-fn asked(registers: &Registers, pair: u8) -> bool {
-    let (a, b) = (&registers.flags_a, &registers.flags_b);
+/// What condition `cnd` (0 to 31) of the 77P20 asks about, and the answer it wants. All but 24 and 25 run in pairs: the even one
+/// wants "is 0", the odd one "is 1".
+#[inline]
+pub fn of_77p20(cnd: u8) -> (Asked, bool) {
+    match cnd {
+        24 => (Asked::LowDpIs0, true),
+        25 => (Asked::LowDpIs15, true),
+        _ => (asked_by_pair(cnd / 2), cnd % 2 == 1),
+    }
+}
+
+#[inline]
+fn asked_by_pair(pair: u8) -> Asked {
     match pair {
-        0 => a.c,
-        1 => b.c,
-        2 => a.z,
-        3 => b.z,
-        4 => a.ov0,
-        5 => b.ov0,
-        6 => a.ov1,
-        7 => b.ov1,
-        8 => a.s0,
-        9 => b.s0,
-        10 => a.s1,
-        11 => b.s1,
-        13 => registers.siack,
-        14 => registers.soack,
-        _ => registers.sr & status::RQM != 0,
+        0 => Asked::Ca,
+        1 => Asked::Cb,
+        2 => Asked::Za,
+        3 => Asked::Zb,
+        4 => Asked::Ova0,
+        5 => Asked::Ovb0,
+        6 => Asked::Ova1,
+        7 => Asked::Ovb1,
+        8 => Asked::Sa0,
+        9 => Asked::Sb0,
+        10 => Asked::Sa1,
+        11 => Asked::Sb1,
+        13 => Asked::Siack,
+        14 => Asked::Soack,
+        _ => Asked::Rqm,
     }
 }

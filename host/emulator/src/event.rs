@@ -1,6 +1,6 @@
 //! One event from outside, and its reply.
 
-use crate::device::{CELLS, RAM, WORDS};
+use crate::chip::{Chip, Sizes};
 use crate::host;
 use crate::refusal;
 use crate::registers::{Flags, Registers};
@@ -42,14 +42,20 @@ impl Reply {
     }
 }
 
-/// One call: one event. Registers and RAM are changed in place; what is refused leaves both as they were before it.
+/// `event_on` the 77P20.
 pub fn event(registers: &mut Registers, program: &[u32], rom: &[u16], ram: &mut [u16], kind: u32, value: u32) -> Reply {
-    event_with::<ROW_LAST>(registers, program, rom, ram, kind, value)
+    event_on(Chip::Upd77p20, registers, program, rom, ram, kind, value)
 }
 
-/// `event` with a time for DPH-M.
+/// One call: one event. Registers and RAM are changed in place; what is refused leaves both as they were before it.
+pub fn event_on(chip: Chip, registers: &mut Registers, program: &[u32], rom: &[u16], ram: &mut [u16], kind: u32, value: u32) -> Reply {
+    event_with::<ROW_LAST>(chip, registers, program, rom, ram, kind, value)
+}
+
+/// `event_on` with a time for DPH-M.
 #[inline]
 pub(crate) fn event_with<const ROW: bool>(
+    chip: Chip,
     registers: &mut Registers,
     program: &[u32],
     rom: &[u16],
@@ -57,10 +63,11 @@ pub(crate) fn event_with<const ROW: bool>(
     kind: u32,
     value: u32,
 ) -> Reply {
-    if program.len() != WORDS || rom.len() != CELLS || ram.len() != RAM {
+    let Sizes { words, cells, ram: ram_cells, .. } = chip.sizes();
+    if program.len() != words || rom.len() != cells || ram.len() != ram_cells {
         return Reply::refusing(refusal::LENGTH);
     }
-    if !registers.fit() {
+    if !registers.fit_on(chip) {
         return Reply::refusing(refusal::REGISTER_TOO_WIDE);
     }
     if kind > RESET || value > highest_value(kind) {
@@ -68,7 +75,7 @@ pub(crate) fn event_with<const ROW: bool>(
     }
     let value = value as u16;
     match kind {
-        RUN => run::<ROW>(registers, program, rom, ram, value),
+        RUN => run::<ROW>(chip, registers, program, rom, ram, value),
         HOST_READS_DATA => Reply::handing(host::read_data(registers)),
         HOST_WRITES_DATA => {
             host::write_data(registers, value);
@@ -91,9 +98,9 @@ fn highest_value(kind: u32) -> u32 {
 }
 
 /// Runs `count` words, or those before the first refused one.
-fn run<const ROW: bool>(registers: &mut Registers, program: &[u32], rom: &[u16], ram: &mut [u16], count: u16) -> Reply {
+fn run<const ROW: bool>(chip: Chip, registers: &mut Registers, program: &[u32], rom: &[u16], ram: &mut [u16], count: u16) -> Reply {
     for done in 0..count {
-        if let Err(number) = step_with::<ROW>(registers, program, rom, ram) {
+        if let Err(number) = step_with::<ROW>(chip, registers, program, rom, ram) {
             return Reply { number, words: done, value: 0 };
         }
     }

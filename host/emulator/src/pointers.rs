@@ -1,26 +1,29 @@
 //! The steps of the instruction counter PC, the data ROM pointer RP and the RAM pointer DP.
 
-/// PC after a word that does not jump: up by one, 511 to 0.
+use crate::chip::Chip;
+
+/// PC after a word that does not jump: up by one, the last word to 0.
 #[inline]
-pub fn next_pc(pc: u16) -> u16 {
-    if pc == 511 {
+pub fn next_pc(chip: Chip, pc: u16) -> u16 {
+    if usize::from(pc) == chip.sizes().words - 1 {
         0
     } else {
         pc + 1
     }
 }
 
-/// RP after RPDCR: one taken from it, 0 to 511.
+/// RP after RPDCR: one taken from it, 0 to the last cell.
 #[inline]
-pub fn rp_down(rp: u16) -> u16 {
+pub fn rp_down(chip: Chip, rp: u16) -> u16 {
     if rp == 0 {
-        511
+        (chip.sizes().cells - 1) as u16
     } else {
         rp - 1
     }
 }
 
-/// DP after the fields DPL (on the low four bits, without carry into the row) and DPH-M (on the row, bits 6 to 4).
+/// DP after the fields DPL (on the low four bits, without carry into the row) and DPH-M (on the row, which is all bits above: three
+/// on the 77P20, four on the 77C25).
 #[inline]
 pub fn dp_moved(dp: u16, dpl: u8, dphm: u8) -> u16 {
     let row = dp / 16;
@@ -42,14 +45,16 @@ pub fn dp_moved(dp: u16, dpl: u8, dphm: u8) -> u16 {
 mod tests {
     use super::*;
 
+    const P20: Chip = Chip::Upd77p20;
+
     #[test]
     fn pc_goes_up_by_one_and_from_511_to_0() {
-        assert_eq!(next_pc(0), 1);
-        assert_eq!(next_pc(1), 2);
-        assert_eq!(next_pc(255), 256);
-        assert_eq!(next_pc(256), 257);
-        assert_eq!(next_pc(510), 511);
-        assert_eq!(next_pc(511), 0);
+        assert_eq!(next_pc(P20, 0), 1);
+        assert_eq!(next_pc(P20, 1), 2);
+        assert_eq!(next_pc(P20, 255), 256);
+        assert_eq!(next_pc(P20, 256), 257);
+        assert_eq!(next_pc(P20, 510), 511);
+        assert_eq!(next_pc(P20, 511), 0);
     }
 
     #[test]
@@ -57,22 +62,22 @@ mod tests {
         let mut pc = 0;
         for word in 0..512 {
             assert_eq!(pc, word);
-            pc = next_pc(pc);
+            pc = next_pc(P20, pc);
         }
         assert_eq!(pc, 0);
     }
 
     #[test]
     fn bench_case_7_rp_0_down_is_511() {
-        assert_eq!(rp_down(0), 511);
+        assert_eq!(rp_down(P20, 0), 511);
     }
 
     #[test]
     fn rp_goes_down_by_one() {
-        assert_eq!(rp_down(1), 0);
-        assert_eq!(rp_down(2), 1);
-        assert_eq!(rp_down(256), 255);
-        assert_eq!(rp_down(511), 510);
+        assert_eq!(rp_down(P20, 1), 0);
+        assert_eq!(rp_down(P20, 2), 1);
+        assert_eq!(rp_down(P20, 256), 255);
+        assert_eq!(rp_down(P20, 511), 510);
     }
 
     #[test]
@@ -80,7 +85,7 @@ mod tests {
         let mut rp = 511;
         for cell in (0..512).rev() {
             assert_eq!(rp, cell);
-            rp = rp_down(rp);
+            rp = rp_down(P20, rp);
         }
         assert_eq!(rp, 511);
     }

@@ -1,6 +1,7 @@
 //! The registers, and whether what they hold fits them.
 
-use crate::device::{CELLS, RAM, STACK, WORDS};
+use crate::chip::{Chip, Sizes};
+use crate::device::STACK;
 use crate::status;
 
 /// The flags of one accumulator.
@@ -14,7 +15,7 @@ pub struct Flags {
     pub ov0: bool,
 }
 
-/// Every register of the chip. The fields are wider than some registers: a lent record may hold anything.
+/// Every register of either chip. The fields are wider than some registers: a lent record may hold anything.
 #[derive(Clone, Copy, Debug, Default, PartialEq, Eq)]
 pub struct Registers {
     pub pc: u16,
@@ -25,6 +26,8 @@ pub struct Registers {
     pub k: u16,
     pub l: u16,
     pub tr: u16,
+    /// The 77P20 has no such register, and neither reads nor changes it.
+    pub trb: u16,
     pub dr: u16,
     pub si: u16,
     pub so: u16,
@@ -39,13 +42,20 @@ pub struct Registers {
 }
 
 impl Registers {
-    /// False exactly when refusal 2 applies. Stack cells past the depth count too.
+    /// Whether they fit the 77P20.
     pub fn fit(&self) -> bool {
-        usize::from(self.pc) < WORDS
-            && self.stack.iter().all(|&cell| usize::from(cell) < WORDS)
-            && usize::from(self.dp) < RAM
-            && usize::from(self.rp) < CELLS
-            && usize::from(self.depth) <= STACK
+        self.fit_on(Chip::Upd77p20)
+    }
+
+    /// False exactly when refusal 2 applies. Stack cells past the depth count too.
+    #[inline]
+    pub fn fit_on(&self, chip: Chip) -> bool {
+        let Sizes { words, cells, ram, stack, .. } = chip.sizes();
+        usize::from(self.pc) < words
+            && self.stack.iter().all(|&cell| usize::from(cell) < words)
+            && usize::from(self.dp) < ram
+            && usize::from(self.rp) < cells
+            && usize::from(self.depth) <= stack
             && self.sr & status::EMPTY == 0
     }
 }

@@ -1,6 +1,7 @@
 //! Between a word and its fields.
 
-use crate::device::WORD_BITS;
+use crate::chip::Chip;
+use crate::places;
 use crate::refusal;
 
 #[derive(Clone, Copy, Debug, Default, PartialEq, Eq)]
@@ -15,10 +16,19 @@ pub struct OpFields {
     pub dst: u8,
 }
 
+/// The fields of a JP word of the 77P20.
 #[derive(Clone, Copy, Debug, Default, PartialEq, Eq)]
 pub struct JpFields {
     pub brch: u8,
     pub cnd: u8,
+    pub na: u16,
+    pub spare: u8,
+}
+
+/// The fields of a JP word of the 77C25, where jump and condition are one code.
+#[derive(Clone, Copy, Debug, Default, PartialEq, Eq)]
+pub struct CodeFields {
+    pub code: u16,
     pub na: u16,
     pub spare: u8,
 }
@@ -30,11 +40,13 @@ pub struct LdiFields {
     pub dst: u8,
 }
 
+/// `Jp` is a JP word of the 77P20, `JpCode` one of the 77C25; the others are words of either.
 #[derive(Clone, Copy, Debug, PartialEq, Eq)]
 pub enum Word {
     Op(OpFields),
     Rt(OpFields),
     Jp(JpFields),
+    JpCode(CodeFields),
     Ldi(LdiFields),
 }
 
@@ -47,101 +59,129 @@ pub enum Kind {
     Ldi,
 }
 
-/// The word's fields; `Err(4)` if the word is 2^23 or more.
+const OP: u32 = 0b00;
+const RT: u32 = 0b01;
+const JP: u32 = 0b10;
+const LDI: u32 = 0b11;
+
+/// The fields of a word of the 77P20; `Err(4)` if the word is 2^23 or more.
 pub fn take_apart(word: u32) -> Result<Word, u8> {
-    Ok(match kind(word)? {
-        Kind::Op => Word::Op(op_fields(word)),
-        Kind::Rt => Word::Rt(op_fields(word)),
-        Kind::Jp => Word::Jp(jp_fields(word)),
-        Kind::Ldi => Word::Ldi(ldi_fields(word)),
+    take_apart_on(Chip::Upd77p20, word)
+}
+
+/// The fields of the chip's word; `Err(4)` if the word has more bits than the chip's words.
+pub fn take_apart_on(chip: Chip, word: u32) -> Result<Word, u8> {
+    Ok(match kind(chip, word)? {
+        Kind::Op => Word::Op(op_fields(chip, word)),
+        Kind::Rt => Word::Rt(op_fields(chip, word)),
+        Kind::Jp => match chip {
+            Chip::Upd77p20 => Word::Jp(jp_fields(word)),
+            Chip::Upd77c25 => Word::JpCode(code_fields(word)),
+        },
+        Kind::Ldi => Word::Ldi(ldi_fields(chip, word)),
     })
 }
 
-/// What D22-21 say; `Err(4)` if the word is 2^23 or more.
-pub fn kind(word: u32) -> Result<Kind, u8> {
-    if word >= 1 << WORD_BITS {
+/// What the two top bits say; `Err(4)` if the word has more bits than the chip's words.
+#[inline]
+pub fn kind(chip: Chip, word: u32) -> Result<Kind, u8> {
+    if word >= 1 << chip.sizes().word_bits {
         return Err(refusal::WORD_TOO_WIDE);
     }
-    Ok(match bits(word, 22, 21) {
-        0b00 => Kind::Op,
-        0b01 => Kind::Rt,
-        0b10 => Kind::Jp,
+    Ok(match places::kind(chip).read(word) {
+        OP => Kind::Op,
+        RT => Kind::Rt,
+        JP => Kind::Jp,
         _ => Kind::Ldi,
     })
 }
 
 /// The fields of an OP or RT word.
-pub fn op_fields(word: u32) -> OpFields {
+#[inline]
+pub fn op_fields(chip: Chip, word: u32) -> OpFields {
+    let places = places::op(chip);
     OpFields {
-        psel: bits(word, 20, 19) as u8,
-        alu: bits(word, 18, 15) as u8,
-        asl: bits(word, 14, 14) as u8,
-        dpl: bits(word, 13, 12) as u8,
-        dphm: bits(word, 11, 9) as u8,
-        rpdcr: bits(word, 8, 8) as u8,
-        src: bits(word, 7, 4) as u8,
-        dst: bits(word, 3, 0) as u8,
+        psel: places.psel.read(word) as u8,
+        alu: places.alu.read(word) as u8,
+        asl: places.asl.read(word) as u8,
+        dpl: places.dpl.read(word) as u8,
+        dphm: places.dphm.read(word) as u8,
+        rpdcr: places.rpdcr.read(word) as u8,
+        src: places.src.read(word) as u8,
+        dst: places.dst.read(word) as u8,
     }
 }
 
-/// The fields of a JP word.
-#[rustfmt::skip] // One field a line, with its bits.
+/// The fields of a JP word of the 77P20.
+#[inline]
 pub fn jp_fields(word: u32) -> JpFields {
+    let places = places::JP;
     JpFields {
-        brch: bits(word, 20, 18) as u8,
-        cnd: bits(word, 17, 13) as u8,
-        na: bits(word, 12, 4) as u16,
-        spare: bits(word, 3, 0) as u8,
+        brch: places.brch.read(word) as u8,
+        cnd: places.cnd.read(word) as u8,
+        na: places.na.read(word) as u16,
+        spare: places.spare.read(word) as u8,
     }
+}
+
+/// The fields of a JP word of the 77C25.
+#[inline]
+pub fn code_fields(word: u32) -> CodeFields {
+    let places = places::CODE;
+    CodeFields { code: places.code.read(word) as u16, na: places.na.read(word) as u16, spare: places.spare.read(word) as u8 }
 }
 
 /// The fields of an LDI word.
-pub fn ldi_fields(word: u32) -> LdiFields {
-    LdiFields { id: bits(word, 20, 5) as u16, spare: bits(word, 4, 4) as u8, dst: bits(word, 3, 0) as u8 }
+#[inline]
+pub fn ldi_fields(chip: Chip, word: u32) -> LdiFields {
+    let places = places::ldi(chip);
+    LdiFields { id: places.id.read(word) as u16, spare: places.spare.read(word) as u8, dst: places.dst.read(word) as u8 }
 }
 
-/// The word with these fields; `Err(11)` if one is too wide for its place.
+/// The 77P20's word with these fields; `Err(11)` if one is too wide for its place, or if they are a JP word's of the other chip.
 pub fn build(word: &Word) -> Result<u32, u8> {
-    match word {
-        Word::Op(fields) => Ok(place(0b00, 22, 21)? | build_op(fields)?),
-        Word::Rt(fields) => Ok(place(0b01, 22, 21)? | build_op(fields)?),
-        Word::Jp(fields) => Ok(place(0b10, 22, 21)? | build_jp(fields)?),
-        Word::Ldi(fields) => Ok(place(0b11, 22, 21)? | build_ldi(fields)?),
+    build_on(Chip::Upd77p20, word)
+}
+
+/// The chip's word with these fields; `Err(11)` if one is too wide for its place, or if they are a JP word's of the other chip.
+pub fn build_on(chip: Chip, word: &Word) -> Result<u32, u8> {
+    let kind = places::kind(chip);
+    match (chip, word) {
+        (_, Word::Op(fields)) => Ok(kind.put(OP)? | build_op(chip, fields)?),
+        (_, Word::Rt(fields)) => Ok(kind.put(RT)? | build_op(chip, fields)?),
+        (Chip::Upd77p20, Word::Jp(fields)) => Ok(kind.put(JP)? | build_jp(fields)?),
+        (Chip::Upd77c25, Word::JpCode(fields)) => Ok(kind.put(JP)? | build_code(fields)?),
+        (Chip::Upd77p20, Word::JpCode(_)) | (Chip::Upd77c25, Word::Jp(_)) => Err(refusal::FIELD_TOO_WIDE),
+        (_, Word::Ldi(fields)) => Ok(kind.put(LDI)? | build_ldi(chip, fields)?),
     }
 }
 
-fn build_op(fields: &OpFields) -> Result<u32, u8> {
-    Ok(place(fields.psel.into(), 20, 19)?
-        | place(fields.alu.into(), 18, 15)?
-        | place(fields.asl.into(), 14, 14)?
-        | place(fields.dpl.into(), 13, 12)?
-        | place(fields.dphm.into(), 11, 9)?
-        | place(fields.rpdcr.into(), 8, 8)?
-        | place(fields.src.into(), 7, 4)?
-        | place(fields.dst.into(), 3, 0)?)
+fn build_op(chip: Chip, fields: &OpFields) -> Result<u32, u8> {
+    let places = places::op(chip);
+    Ok(places.psel.put(fields.psel.into())?
+        | places.alu.put(fields.alu.into())?
+        | places.asl.put(fields.asl.into())?
+        | places.dpl.put(fields.dpl.into())?
+        | places.dphm.put(fields.dphm.into())?
+        | places.rpdcr.put(fields.rpdcr.into())?
+        | places.src.put(fields.src.into())?
+        | places.dst.put(fields.dst.into())?)
 }
 
 fn build_jp(fields: &JpFields) -> Result<u32, u8> {
-    Ok(place(fields.brch.into(), 20, 18)?
-        | place(fields.cnd.into(), 17, 13)?
-        | place(fields.na.into(), 12, 4)?
-        | place(fields.spare.into(), 3, 0)?)
+    let places = places::JP;
+    Ok(places.brch.put(fields.brch.into())?
+        | places.cnd.put(fields.cnd.into())?
+        | places.na.put(fields.na.into())?
+        | places.spare.put(fields.spare.into())?)
 }
 
-fn build_ldi(fields: &LdiFields) -> Result<u32, u8> {
-    Ok(place(fields.id.into(), 20, 5)? | place(fields.spare.into(), 4, 4)? | place(fields.dst.into(), 3, 0)?)
+fn build_code(fields: &CodeFields) -> Result<u32, u8> {
+    let places = places::CODE;
+    Ok(places.code.put(fields.code.into())? | places.na.put(fields.na.into())? | places.spare.put(fields.spare.into())?)
 }
 
-/// Bits `top` to `bottom` of the word, as a number.
-fn bits(word: u32, top: u32, bottom: u32) -> u32 {
-    (word >> bottom) % (1 << (top - bottom + 1))
-}
-
-/// The number put at bits `top` to `bottom`.
-fn place(number: u32, top: u32, bottom: u32) -> Result<u32, u8> {
-    if number < 1 << (top - bottom + 1) {
-        Ok(number << bottom)
-    } else {
-        Err(refusal::FIELD_TOO_WIDE)
-    }
+fn build_ldi(chip: Chip, fields: &LdiFields) -> Result<u32, u8> {
+    let places = places::ldi(chip);
+    Ok(places.id.put(fields.id.into())? | places.spare.put(fields.spare.into())? | places.dst.put(fields.dst.into())?)
 }

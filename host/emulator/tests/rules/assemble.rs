@@ -1,4 +1,9 @@
-//! Words put together from the table "Taking a word apart", without help from the emulator.
+//! Words put together from the table "Taking a word apart", without help from the emulator. What names no
+//! chip is about the 77P20.
+
+use crate::chip_77c25::assemble as large;
+use crate::machine::P20;
+use emulator::Chip;
 
 pub mod src {
     pub const NONE: u32 = 0;
@@ -64,26 +69,72 @@ pub struct Op {
     pub dst: u32,
 }
 
-pub fn op(fields: Op) -> u32 {
+/// DPH-M has a bit more on the 77C25, and what is above it stands a bit higher.
+pub fn op_on(chip: Chip, fields: Op) -> u32 {
     let Op { psel, alu, asl, dpl, dphm, rpdcr, src, dst } = fields;
-    psel << 19 | alu << 15 | asl << 14 | dpl << 12 | dphm << 9 | rpdcr << 8 | src << 4 | dst
+    let low = dphm << 9 | rpdcr << 8 | src << 4 | dst;
+    match chip {
+        Chip::Upd77p20 => psel << 19 | alu << 15 | asl << 14 | dpl << 12 | low,
+        Chip::Upd77c25 => psel << 20 | alu << 16 | asl << 15 | dpl << 13 | low,
+    }
 }
 
-pub fn rt(fields: Op) -> u32 {
-    1 << 21 | op(fields)
+pub fn rt_on(chip: Chip, fields: Op) -> u32 {
+    row(chip, 1) | op_on(chip, fields)
 }
 
 /// An OP word that only moves.
+pub fn mov_on(chip: Chip, dst: u32, src: u32) -> u32 {
+    op_on(chip, Op { src, dst, ..Op::default() })
+}
+
+pub fn ldi_on(chip: Chip, id: u32, dst: u32) -> u32 {
+    match chip {
+        Chip::Upd77p20 => row(chip, 3) | id << 5 | dst,
+        Chip::Upd77c25 => row(chip, 3) | id << 6 | dst,
+    }
+}
+
+pub fn jump_on(chip: Chip, na: u32) -> u32 {
+    match chip {
+        Chip::Upd77p20 => jp(JUMP, 0, na),
+        Chip::Upd77c25 => large::jp(large::JMP, na),
+    }
+}
+
+pub fn call_on(chip: Chip, na: u32) -> u32 {
+    match chip {
+        Chip::Upd77p20 => jp(CALL, 0, na),
+        Chip::Upd77c25 => large::jp(large::CALL, na),
+    }
+}
+
+/// The two highest bits of a word.
+fn row(chip: Chip, number: u32) -> u32 {
+    match chip {
+        Chip::Upd77p20 => number << 21,
+        Chip::Upd77c25 => number << 22,
+    }
+}
+
+pub fn op(fields: Op) -> u32 {
+    op_on(P20, fields)
+}
+
+pub fn rt(fields: Op) -> u32 {
+    rt_on(P20, fields)
+}
+
 pub fn mov(dst: u32, src: u32) -> u32 {
-    op(Op { src, dst, ..Op::default() })
+    mov_on(P20, dst, src)
+}
+
+pub fn ldi(id: u32, dst: u32) -> u32 {
+    ldi_on(P20, id, dst)
 }
 
 pub fn jp(brch: u32, cnd: u32, na: u32) -> u32 {
     2 << 21 | brch << 18 | cnd << 13 | na << 4
-}
-
-pub fn ldi(id: u32, dst: u32) -> u32 {
-    3 << 21 | id << 5 | dst
 }
 
 pub const JUMP_ON_CONDITION: u32 = 0b010;

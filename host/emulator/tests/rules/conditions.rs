@@ -1,15 +1,15 @@
 //! Each of the 32 conditions, alone against all others.
 
 use crate::assemble::{jp, JUMP_ON_CONDITION};
-use crate::machine::{recognisable, Machine, NEXT};
-use emulator::Flags;
+use crate::machine::{recognisable, recognisable_on, Machine, NEXT, P20};
+use emulator::{Chip, Flags};
 
 const TARGET: u16 = 0x1ce;
 
 /// Every flag that a condition asks about is `value`.
-fn all(value: bool) -> Machine {
+pub fn all(chip: Chip, value: bool) -> Machine {
     let flags = Flags { s1: value, s0: value, c: value, z: value, ov1: value, ov0: value };
-    let mut machine = recognisable();
+    let mut machine = recognisable_on(chip);
     machine.registers.flags_a = flags;
     machine.registers.flags_b = flags;
     machine.registers.siack = value;
@@ -51,7 +51,7 @@ fn jumps(machine: Machine, cnd: u32, taken: bool) {
 fn pairs_ask_for_0_then_for_1() {
     for first in (0..24).step_by(2).chain((26..32).step_by(2)) {
         for value in [false, true] {
-            let mut machine = all(!value);
+            let mut machine = all(P20, !value);
             set(&mut machine, first, value);
             jumps(machine.clone(), first, !value);
             jumps(machine, first + 1, value);

@@ -14,6 +14,7 @@ pub fn fitting_registers(random: &mut Random) -> Registers {
         k: random.word(),
         l: random.word(),
         tr: random.word(),
+        trb: random.word(),
         dr: random.word(),
         si: random.word(),
         so: random.word(),

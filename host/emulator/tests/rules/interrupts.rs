@@ -1,8 +1,8 @@
 //! E3: an accepted interrupt makes two words, every other interrupt none, and a run counts its own words only.
 
-use crate::assemble::{alu, dst, jp, ldi, op, rt, Op, CALL, JUMP};
-use crate::machine::{empty, recognisable, Machine, ACCEPTED, DONE, HERE};
-use emulator::Reply;
+use crate::assemble::{alu, dst, jp, jump_on, ldi, op, rt, rt_on, Op, CALL, JUMP};
+use crate::machine::{empty, here, recognisable_on, Machine, ACCEPTED, C25, CHIPS, DONE, HERE, P20};
+use emulator::{Chip, Reply};
 
 const EI: u16 = 0x0080;
 const TOO_WIDE: u32 = 1 << 23;
@@ -11,7 +11,11 @@ const TOO_WIDE: u32 = 1 << 23;
 const REFUSED: Reply = Reply { number: 9, ..DONE };
 
 fn at(sr: u16, depth: u8) -> Machine {
-    let mut machine = recognisable();
+    at_on(P20, sr, depth)
+}
+
+fn at_on(chip: Chip, sr: u16, depth: u8) -> Machine {
+    let mut machine = recognisable_on(chip);
     machine.registers.sr = sr;
     machine.registers.depth = depth;
     machine
@@ -48,12 +52,12 @@ fn stopped_after(words: u16) -> Reply {
 #[test]
 fn ei_and_the_depth_decide() {
     for sr in (0..=0xffff).filter(|sr| sr & 0x007c == 0) {
-        for depth in 0..5 {
-            let machine = at(sr, depth);
+        for (chip, depth) in CHIPS.into_iter().flat_map(|chip| (0..5).map(move |depth| (chip, depth))) {
+            let machine = at_on(chip, sr, depth);
             match (sr & EI, depth) {
                 (0, _) => machine.event_replies(6, 0, DONE, |_| {}),
                 (_, 4) => machine.event_replies(6, 0, REFUSED, |_| {}),
-                _ => machine.event_replies(6, 0, ACCEPTED, |m| taken(m, HERE)),
+                _ => machine.event_replies(6, 0, ACCEPTED, |m| taken(m, here(chip))),
             }
         }
     }
@@ -62,10 +66,24 @@ fn ei_and_the_depth_decide() {
 /// The NOP put in doesn't step PC: the return address is the word that has not run yet, from wherever.
 #[test]
 fn pc_itself_is_pushed() {
-    for pc in 0..512 {
-        let mut machine = listening();
-        machine.registers.pc = pc;
-        machine.event_replies(6, 0, ACCEPTED, |m| taken(m, pc));
+    for (chip, words) in [(P20, 512), (C25, 2048)] {
+        for (pc, sr) in (0..words).flat_map(|pc| [(pc, EI), (pc, 0x8000 | EI)]) {
+            let mut machine = at_on(chip, sr, 2);
+            machine.registers.pc = pc;
+            machine.event_replies(6, 0, ACCEPTED, |m| taken(m, pc));
+        }
+    }
+}
+
+#[test]
+fn there_and_back() {
+    for (chip, last) in [(P20, 0x1ff), (C25, 0x7ff)] {
+        let mut machine = at_on(chip, EI, 2);
+        machine.program[0x100] = jump_on(chip, last);
+        machine.program[last as usize] = rt_on(chip, Op::default());
+        assert_eq!(machine.event(6, 0), ACCEPTED);
+        assert_eq!(machine.event(0, 2), ran(2));
+        assert_eq!((machine.registers.pc, machine.registers.depth), (here(chip), 2));
     }
 }
 

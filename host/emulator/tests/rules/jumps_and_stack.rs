@@ -1,49 +1,57 @@
 //! Jumps, calls and returns.
 
-use crate::assemble::{alu, dst, jp, op, psel, rt, src, Op, CALL, JUMP};
-use crate::machine::{recognisable, NEXT};
+use crate::assemble::{alu, call_on, dst, jump_on, op, psel, rt, rt_on, src, Op};
+use crate::machine::{next, recognisable, recognisable_on, C25, DONE, NEXT, P20};
 use emulator::{Flags, Reply};
 
 #[test]
 fn a_jump_goes_to_na() {
-    for na in 0..512 {
-        recognisable().word_changes(jp(JUMP, 0, na.into()), |m| m.registers.pc = na);
+    for (chip, words) in [(P20, 512), (C25, 2048)] {
+        for na in 0..words {
+            recognisable_on(chip).word_changes(jump_on(chip, na.into()), |m| m.registers.pc = na);
+        }
     }
 }
 
 #[test]
 fn a_call_writes_the_cell_numbered_by_the_depth() {
-    for depth in 0..4 {
-        let mut machine = recognisable();
-        machine.registers.depth = depth;
-        machine.word_changes(jp(CALL, 0, 0x0ee), |m| {
-            m.registers.pc = 0x0ee;
-            m.registers.stack[usize::from(depth)] = NEXT;
-            m.registers.depth = depth + 1;
+    for (chip, na) in [(P20, 0x0ee), (C25, 0x7ee)] {
+        for depth in 0..4 {
+            let mut machine = recognisable_on(chip);
+            machine.registers.depth = depth;
+            machine.word_changes(call_on(chip, na.into()), |m| {
+                m.registers.pc = na;
+                m.registers.stack[usize::from(depth)] = next(chip);
+                m.registers.depth = depth + 1;
+            });
+        }
+    }
+}
+
+#[test]
+fn a_call_pushes_the_word_after_it_and_0_after_the_last() {
+    for (chip, pc, pushed) in [(P20, 511, 0), (C25, 2047, 0), (C25, 511, 512)] {
+        let mut machine = recognisable_on(chip);
+        machine.registers.pc = pc;
+        machine.word_changes(call_on(chip, 3), |m| {
+            m.registers.pc = 3;
+            m.registers.stack[2] = pushed;
+            m.registers.depth = 3;
         });
     }
 }
 
 #[test]
-fn a_call_from_511_pushes_0() {
-    let mut machine = recognisable();
-    machine.registers.pc = 511;
-    machine.word_changes(jp(CALL, 0, 3), |m| {
-        m.registers.pc = 3;
-        m.registers.stack[2] = 0;
-        m.registers.depth = 3;
-    });
-}
-
-#[test]
 fn a_return_takes_the_cell_below_and_leaves_it() {
-    for (depth, cell) in [(1, 0x111), (2, 0x0a2), (3, 0x1b3), (4, 0x0c4)] {
-        let mut machine = recognisable();
-        machine.registers.depth = depth;
-        machine.word_changes(rt(Op::default()), |m| {
-            m.registers.pc = cell;
-            m.registers.depth = depth - 1;
-        });
+    for (chip, cells) in [(P20, [0x111, 0x0a2, 0x1b3, 0x0c4]), (C25, [0x711, 0x0a2, 0x5b3, 0x3c4])] {
+        for (depth, cell) in (1..5).zip(cells) {
+            let mut machine = recognisable_on(chip);
+            machine.registers.depth = depth;
+            machine.word_changes(rt_on(chip, Op::default()), |m| {
+                m.registers.pc = cell;
+                m.registers.depth = depth - 1;
+            });
+        }
     }
 }
 
@@ -74,19 +82,23 @@ fn a_return_does_all_that_an_op_word_does() {
 
 #[test]
 fn four_calls_and_four_returns() {
-    let mut machine = recognisable();
-    machine.registers.depth = 0;
-    for (from, to) in [(0x20, 0x40), (0x40, 0x60), (0x60, 0x80), (0x80, 0xa0)] {
-        machine.program[from] = jp(CALL, 0, to);
-    }
-    assert_eq!(machine.event(0, 4), Reply { number: 0, words: 4, value: 0 });
-    assert_eq!((machine.registers.pc, machine.registers.depth), (0xa0, 4));
-    assert_eq!(machine.registers.stack, [0x21, 0x41, 0x61, 0x81]);
+    let small = (P20, [0x20, 0x40, 0x60, 0x80, 0xa0], [0x21, 0x41, 0x61, 0x81]);
+    let large = (C25, [0x620, 0x7ff, 0x400, 0x200, 0x5a0], [0x621, 0x000, 0x401, 0x201]);
+    for (chip, path, stack) in [small, large] {
+        let mut machine = recognisable_on(chip);
+        machine.registers.depth = 0;
+        for (from, to) in path.into_iter().zip(&path[1..]) {
+            machine.program[usize::from(from)] = call_on(chip, (*to).into());
+        }
+        assert_eq!(machine.event(0, 4), Reply { words: 4, ..DONE });
+        assert_eq!((machine.registers.pc, machine.registers.depth), (path[4], 4));
+        assert_eq!(machine.registers.stack, stack);
 
-    for from in [0xa0, 0x81, 0x61, 0x41] {
-        machine.program[from] = rt(Op::default());
+        for from in [path[4], stack[3], stack[2], stack[1]] {
+            machine.program[usize::from(from)] = rt_on(chip, Op::default());
+        }
+        assert_eq!(machine.event(0, 4), Reply { words: 4, ..DONE });
+        assert_eq!((machine.registers.pc, machine.registers.depth), (stack[0], 0));
+        assert_eq!(machine.registers.stack, stack);
     }
-    assert_eq!(machine.event(0, 4), Reply { number: 0, words: 4, value: 0 });
-    assert_eq!((machine.registers.pc, machine.registers.depth), (0x21, 0));
-    assert_eq!(machine.registers.stack, [0x21, 0x41, 0x61, 0x81]);
 }

@@ -1,22 +1,50 @@
-//! A machine whose registers and cells all hold something recognisable.
+//! A machine of either chip whose registers and cells all hold something recognisable. What names no chip is about the 77P20.
 
-use emulator::{event, Flags, Registers, Reply, CELLS, RAM, WORDS};
+use crate::chip_77c25::machine as large;
+use emulator::{event, event_on, Chip, Flags, Registers, Reply, CELLS, RAM, WORDS};
+
+pub const P20: Chip = Chip::Upd77p20;
+pub const C25: Chip = Chip::Upd77c25;
+pub const CHIPS: [Chip; 2] = [P20, C25];
 
 #[derive(Clone, Debug, PartialEq, Eq)]
 pub struct Machine {
+    pub chip: Chip,
     pub registers: Registers,
-    pub program: [u32; WORDS],
-    pub rom: [u16; CELLS],
-    pub ram: [u16; RAM],
+    pub program: Vec<u32>,
+    pub rom: Vec<u16>,
+    pub ram: Vec<u16>,
 }
 
 /// Where a recognisable machine stands, and the word after that.
 pub const HERE: u16 = 0x20;
 pub const NEXT: u16 = 0x21;
 
+pub fn here(chip: Chip) -> u16 {
+    match chip {
+        Chip::Upd77p20 => HERE,
+        Chip::Upd77c25 => large::HERE,
+    }
+}
+
+pub fn next(chip: Chip) -> u16 {
+    match chip {
+        Chip::Upd77p20 => NEXT,
+        Chip::Upd77c25 => large::NEXT,
+    }
+}
+
+pub fn recognisable_on(chip: Chip) -> Machine {
+    match chip {
+        Chip::Upd77p20 => recognisable(),
+        Chip::Upd77c25 => large::recognisable(),
+    }
+}
+
 /// RAM cell n holds 4000H + n, data ROM cell n holds 1000H + n, every program word is 0.
 pub fn recognisable() -> Machine {
     Machine {
+        chip: P20,
         registers: Registers {
             pc: HERE,
             stack: [0x111, 0x0a2, 0x1b3, 0x0c4],
@@ -26,6 +54,7 @@ pub fn recognisable() -> Machine {
             k: 0x0301,
             l: 0x0500,
             tr: 0x7a7a,
+            trb: 0x7b7b,
             dr: 0xd00d,
             si: 0x8003,
             so: 0x50f0,
@@ -38,15 +67,15 @@ pub fn recognisable() -> Machine {
             soack: true,
             sorq: false,
         },
-        program: [0; WORDS],
-        rom: std::array::from_fn(|cell| 0x1000 + cell as u16),
-        ram: std::array::from_fn(|cell| 0x4000 + cell as u16),
+        program: vec![0; WORDS],
+        rom: (0x1000..0x1200).collect(),
+        ram: (0x4000..0x4080).collect(),
     }
 }
 
 /// All registers, flags and cells 0.
 pub fn empty() -> Machine {
-    Machine { registers: Registers::default(), program: [0; WORDS], rom: [0; CELLS], ram: [0; RAM] }
+    Machine { chip: P20, registers: Registers::default(), program: vec![0; WORDS], rom: vec![0; CELLS], ram: vec![0; RAM] }
 }
 
 pub const DONE: Reply = Reply { number: 0, words: 0, value: 0 };
@@ -56,7 +85,12 @@ pub const ACCEPTED: Reply = Reply { number: 0, words: 2, value: 0 };
 
 impl Machine {
     pub fn event(&mut self, kind: u32, value: u32) -> Reply {
-        event(&mut self.registers, &self.program, &self.rom, &mut self.ram, kind, value)
+        let Machine { chip, registers, program, rom, ram } = self;
+        match chip {
+            // The function that takes no chip.
+            Chip::Upd77p20 => event(registers, program, rom, ram, kind, value),
+            Chip::Upd77c25 => event_on(C25, registers, program, rom, ram, kind, value),
+        }
     }
 
     /// Puts one word at PC and runs it.
@@ -90,7 +124,7 @@ impl Machine {
     pub fn event_replies(mut self, kind: u32, given: u32, reply: Reply, change: impl FnOnce(&mut Machine)) {
         let mut expected = self.clone();
         change(&mut expected);
-        assert_eq!(self.event(kind, given), reply);
+        assert_eq!(self.event(kind, given), reply, "{:?}", self.chip);
         assert_eq!(self, expected);
     }
 

@@ -1,9 +1,10 @@
-//! What the rules paper and change requests E3 and E8 say, with every expected value worked out by hand.
+//! What the rules paper and change requests E3, E8 and E10 say, with every expected value worked out by hand.
 
 mod accumulators;
 mod alu;
 mod assemble;
 mod bench_cases;
+mod chip_77c25;
 mod conditions;
 mod damaged_input;
 mod destinations;

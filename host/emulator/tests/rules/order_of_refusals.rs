@@ -1,35 +1,40 @@
 //! The lowest number that applies is given, but 18 comes after 5 and before 6.
 
 use crate::assemble::{alu, dst, jp, ldi, op, psel, rt, src, Op, CALL, JUMP};
-use crate::machine::{recognisable, DONE};
-use emulator::{event, Reply};
+use crate::machine::{recognisable, recognisable_on, C25, CHIPS, P20};
 
 #[test]
 fn a_wrong_length_before_a_register_and_a_kind() {
-    let mut machine = recognisable();
-    machine.registers.pc = 512;
-    let reply = event(&mut machine.registers, &machine.program[1..], &machine.rom, &mut machine.ram, 8, 1);
-    assert_eq!(reply, Reply { number: 1, ..DONE });
+    for (chip, words) in [(P20, 512), (C25, 2048)] {
+        let mut machine = recognisable_on(chip);
+        machine.registers.pc = words;
+        machine.program.pop();
+        machine.event_is_refused(8, 1, 1);
+    }
 }
 
 #[test]
 fn a_register_before_a_kind_and_a_value() {
-    let mut machine = recognisable();
-    machine.registers.dp = 128;
-    machine.clone().event_is_refused(8, 0, 2);
-    machine.clone().event_is_refused(1, 1, 2);
-    machine.event_is_refused(0, 65536, 2);
+    for (chip, ram_cells) in [(P20, 128), (C25, 256)] {
+        let mut machine = recognisable_on(chip);
+        machine.registers.dp = ram_cells;
+        machine.clone().event_is_refused(8, 0, 2);
+        machine.clone().event_is_refused(1, 1, 2);
+        machine.event_is_refused(0, 65536, 2);
+    }
 }
 
 #[test]
 fn a_value_before_what_the_event_would_meet() {
-    let mut machine = recognisable();
-    machine.registers.sr = 0x0080;
-    machine.registers.depth = 4;
-    machine.program[0x20] = u32::MAX;
-    machine.clone().event_is_refused(5, 1, 3);
-    machine.clone().event_is_refused(6, 1, 3);
-    machine.event_is_refused(0, 65536, 3);
+    for chip in CHIPS {
+        let mut machine = recognisable_on(chip);
+        machine.registers.sr = 0x0080;
+        machine.registers.depth = 4;
+        machine.program.fill(u32::MAX);
+        machine.clone().event_is_refused(5, 1, 3);
+        machine.clone().event_is_refused(6, 1, 3);
+        machine.event_is_refused(0, 65536, 3);
+    }
 }
 
 #[test]
@@ -76,8 +81,8 @@ fn a_length_a_register_and_a_value_before_unused_bits() {
     let mut machine = recognisable();
     machine.program.fill(jp(JUMP, 1, 0) | 1);
     let mut shorter = machine.clone();
-    let reply = event(&mut shorter.registers, &shorter.program[1..], &shorter.rom, &mut shorter.ram, 0, 1);
-    assert_eq!((reply, &shorter), (Reply { number: 1, ..DONE }, &machine));
+    shorter.program.pop();
+    shorter.event_is_refused(0, 1, 1);
 
     machine.clone().event_is_refused(0, 65536, 3);
     machine.registers.rp = 512;

@@ -1,58 +1,55 @@
 //! DP and RP at the end of a word, PC from word to word.
 
-use crate::assemble::{dst, jp, ldi, op, rt, src, Op, JUMP_ON_CONDITION};
-use crate::machine::{recognisable, NEXT};
+use crate::assemble::{dst, jp, ldi, op, op_on, rt, rt_on, src, Op, JUMP_ON_CONDITION};
+use crate::machine::{next, recognisable, recognisable_on, C25, NEXT, P20};
+use emulator::Chip;
 
-#[test]
-fn dpl_moves_within_the_row() {
-    let rows = [
-        (0, 0x25, 0x25),
-        (1, 0x25, 0x26),
-        (1, 0x26, 0x27),
-        (1, 0x2e, 0x2f),
-        (1, 0x2f, 0x20),
-        (1, 0x7f, 0x70),
-        (2, 0x25, 0x24),
-        (2, 0x24, 0x23),
-        (2, 0x21, 0x20),
-        (2, 0x20, 0x2f),
-        (2, 0x00, 0x0f),
-        (3, 0x25, 0x20),
-        (3, 0x7f, 0x70),
-    ];
-    for (dpl, before, after) in rows {
-        let mut machine = recognisable();
-        machine.registers.dp = before;
-        machine.word_changes(op(Op { dpl, ..Op::default() }), |m| {
-            m.registers.pc = NEXT;
-            m.registers.dp = after;
-        });
+/// By an OP and by an RT word.
+#[track_caller]
+pub fn dp_moves(chip: Chip, dpl: u32, dphm: u32, from: u16, to: u16) {
+    let fields = Op { dpl, dphm, ..Op::default() };
+    let mut machine = recognisable_on(chip);
+    machine.registers.dp = from;
+    machine.clone().word_changes(op_on(chip, fields), |m| (m.registers.pc, m.registers.dp) = (next(chip), to));
+    machine.word_changes(rt_on(chip, fields), |m| (m.registers.pc, m.registers.depth, m.registers.dp) = (0x0a2, 1, to));
+}
+
+/// One DPL for several DP, before and after.
+#[track_caller]
+pub fn low_dp_moves<const ROWS: usize>(chip: Chip, dpl: u32, rows: [(u16, u16); ROWS]) {
+    for (from, to) in rows {
+        dp_moves(chip, dpl, 0, from, to);
     }
 }
 
 #[test]
+fn dpl_moves_within_the_row() {
+    low_dp_moves(P20, 0, [(0x25, 0x25)]);
+    low_dp_moves(P20, 1, [(0x25, 0x26), (0x26, 0x27), (0x2e, 0x2f), (0x2f, 0x20), (0x7f, 0x70)]);
+    low_dp_moves(P20, 2, [(0x25, 0x24), (0x24, 0x23), (0x21, 0x20), (0x20, 0x2f), (0x00, 0x0f)]);
+    low_dp_moves(P20, 3, [(0x25, 0x20), (0x7f, 0x70)]);
+}
+
+#[test]
 fn dphm_changes_the_row() {
-    let rows = [(1, 0x25, 0x35), (2, 0x25, 0x05), (4, 0x25, 0x65), (7, 0x25, 0x55), (7, 0x7a, 0x0a)];
-    for (dphm, before, after) in rows {
-        let mut machine = recognisable();
-        machine.registers.dp = before;
-        machine.word_changes(op(Op { dphm, ..Op::default() }), |m| {
-            m.registers.pc = NEXT;
-            m.registers.dp = after;
-        });
+    for (dphm, from, to) in [(1, 0x25, 0x35), (2, 0x25, 0x05), (4, 0x25, 0x65), (7, 0x25, 0x55), (7, 0x7a, 0x0a)] {
+        dp_moves(P20, 0, dphm, from, to);
+    }
+}
+
+#[track_caller]
+fn rp_goes_down<const ROWS: usize>(chip: Chip, rows: [(u16, u16); ROWS]) {
+    for (from, to) in rows {
+        let mut machine = recognisable_on(chip);
+        machine.registers.rp = from;
+        machine.word_changes(op_on(chip, Op { rpdcr: 1, ..Op::default() }), |m| (m.registers.pc, m.registers.rp) = (next(chip), to));
     }
 }
 
 #[test]
 fn rpdcr_takes_one_from_rp() {
-    for (before, after) in [(0x1a7, 0x1a6), (0, 511), (511, 510), (256, 255)] {
-        let mut machine = recognisable();
-        machine.registers.rp = before;
-        machine.word_changes(op(Op { rpdcr: 1, ..Op::default() }), |m| {
-            m.registers.pc = NEXT;
-            m.registers.rp = after;
-        });
-    }
+    rp_goes_down(P20, [(0x1a7, 0x1a6), (0, 511), (511, 510), (256, 255)]);
+    rp_goes_down(C25, [(0, 1023), (1, 0), (2, 1), (511, 510), (512, 511), (1023, 1022)]);
 }
 
 #[test]

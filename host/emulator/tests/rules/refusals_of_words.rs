@@ -1,8 +1,8 @@
-//! Refusals 4 to 9 of a word, and 4 and 11 of taking apart and building.
+//! Refusals 4 to 9 of a word, and 4 of taking apart.
 
-use crate::assemble::{dst, jp, ldi, mov, op, psel, rt, src, Op, CALL};
-use crate::machine::{recognisable, Machine, NEXT};
-use emulator::{build, take_apart, JpFields, LdiFields, OpFields, Word};
+use crate::assemble::{call_on, dst, jp, ldi, mov, op, psel, rt, rt_on, src, Op};
+use crate::machine::{recognisable, recognisable_on, Machine, C25, CHIPS, NEXT, P20};
+use emulator::{take_apart, Chip};
 
 #[test]
 fn refusal_4_a_word_of_2_to_the_23() {
@@ -96,53 +96,24 @@ fn a_wide_cell_that_is_not_used() {
     assert_eq!((machine.registers.k, machine.registers.l), (0xfff8, 0xfff8));
 }
 
+pub fn at_depth(chip: Chip, depth: u8) -> Machine {
+    let mut machine = recognisable_on(chip);
+    machine.registers.depth = depth;
+    machine
+}
+
 #[test]
 fn refusal_8_a_return_at_depth_0() {
-    let mut machine = recognisable();
-    machine.registers.depth = 0;
-    machine.clone().word_is_refused(rt(Op::default()), 8);
-    machine.word_is_refused(rt(Op { alu: 9, dpl: 1, rpdcr: 1, src: src::DR, dst: dst::MEM, ..Op::default() }), 8);
+    for (chip, dphm) in [(P20, 0), (C25, 0), (C25, 8)] {
+        let works = Op { alu: 9, dpl: 1, dphm, rpdcr: 1, src: src::DR, dst: dst::MEM, ..Op::default() };
+        at_depth(chip, 0).word_is_refused(rt_on(chip, Op::default()), 8);
+        at_depth(chip, 0).word_is_refused(rt_on(chip, works), 8);
+    }
 }
 
 #[test]
 fn refusal_9_a_call_at_depth_4() {
-    let mut machine = recognisable();
-    machine.registers.depth = 4;
-    machine.word_is_refused(jp(CALL, 0, 0x55), 9);
-}
-
-/// Each field one too wide for its place.
-#[test]
-fn refusal_11_a_field_too_wide() {
-    let op = OpFields::default();
-    let op_words = [
-        OpFields { psel: 4, ..op },
-        OpFields { alu: 16, ..op },
-        OpFields { asl: 2, ..op },
-        OpFields { dpl: 4, ..op },
-        OpFields { dphm: 8, ..op },
-        OpFields { rpdcr: 2, ..op },
-        OpFields { src: 16, ..op },
-        OpFields { dst: 16, ..op },
-        OpFields { dst: 255, ..op },
-    ];
-    for fields in op_words {
-        assert_eq!(build(&Word::Op(fields)), Err(11));
-        assert_eq!(build(&Word::Rt(fields)), Err(11));
-    }
-    let jp = JpFields::default();
-    let jp_words = [
-        JpFields { brch: 8, ..jp },
-        JpFields { cnd: 32, ..jp },
-        JpFields { na: 512, ..jp },
-        JpFields { na: 65535, ..jp },
-        JpFields { spare: 16, ..jp },
-    ];
-    for fields in jp_words {
-        assert_eq!(build(&Word::Jp(fields)), Err(11));
-    }
-    let ldi = LdiFields::default();
-    for fields in [LdiFields { spare: 2, ..ldi }, LdiFields { dst: 16, ..ldi }] {
-        assert_eq!(build(&Word::Ldi(fields)), Err(11));
+    for chip in CHIPS {
+        at_depth(chip, 4).word_is_refused(call_on(chip, 0x55), 9);
     }
 }

@@ -230,7 +230,7 @@ fn how_many_words_are_refused() {
     let mut drained = recognisable();
     drained.registers.depth = 0;
     for machine in [full, drained] {
-        let Machine { mut registers, mut program, rom, mut ram } = machine.clone();
+        let Machine { mut registers, mut program, rom, mut ram, .. } = machine.clone();
         let (mut no_such_branch, mut unused_bits) = (0, 0);
         for word in 0..1 << 23 {
             program[usize::from(HERE)] = word;
@@ -238,11 +238,14 @@ fn how_many_words_are_refused() {
             match reply.number {
                 5 => no_such_branch += 1,
                 18 => unused_bits += 1,
-                _ => (registers, ram) = (machine.registers, machine.ram),
+                _ => {
+                    registers = machine.registers;
+                    ram.copy_from_slice(&machine.ram);
+                }
             }
             if reply.number == 18 {
                 assert_eq!(reply, stopped_after(0));
-                assert_eq!((registers, ram), (machine.registers, machine.ram), "{word:06X}H");
+                assert_eq!((registers, &ram), (machine.registers, &machine.ram), "{word:06X}H");
             }
         }
         assert_eq!((no_such_branch, unused_bits), (1310720, 1817600));
