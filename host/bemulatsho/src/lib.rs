@@ -1,15 +1,22 @@
 //! The proved machine for Rust programs: the desk's static library behind slices and references, so that no call can be given a
 //! length that is not its buffer's own. Every input is accepted; a refused one gets its number and changes nothing.
+//!
+//! This is the uPD77P20; `upd77c25` has the larger chip.
 
+mod events;
 mod presets;
 mod record;
 mod texts;
+pub mod upd77c25;
 mod words;
 
+pub use events::Reply;
 pub use presets::{load_preset, write_preset, Writing, PRESET_TEXT};
 pub use record::{BothFlags, Flags, Registers};
 pub use texts::{load_data, load_program, read_record, Loading, Record};
-pub use words::{build, take_apart, JpFields, LdiFields, OpFields, Word};
+pub use words::{build, take_apart, JpFields, LdiFields, OpFields, Word, WordOf};
+
+use events::{in_place, Event};
 
 /// Instruction words, data ROM cells and RAM cells that a call is lent.
 pub const WORDS: usize = 512;
@@ -26,22 +33,6 @@ pub mod kind {
     pub const SERIAL_OUT: u32 = 5;
     pub const INTERRUPT: u32 = 6;
     pub const RESET: u32 = 7;
-}
-
-/// What a call answers: 0 or the refusal's number, the words done (of a run, and 2 of an accepted interrupt), and a value (of kinds 1, 3
-/// and 5).
-#[repr(C)]
-#[derive(Clone, Copy, Debug, Default, PartialEq, Eq)]
-pub struct Reply {
-    pub number: u8,
-    pub words: u16,
-    pub value: u16,
-}
-
-#[repr(C)]
-struct Event {
-    kind: u32,
-    value: u32,
 }
 
 extern "C" {
@@ -62,19 +53,8 @@ extern "C" {
 /// One event on the caller's record and RAM.
 #[inline]
 pub fn event(registers: &mut Registers, program: &[u32], rom: &[u16], ram: &mut [u16], kind: u32, value: u32) -> Reply {
-    // SAFETY: each pointer goes with its slice's own length; the record and the RAM are lent to this call alone.
-    unsafe {
-        bemulatsho_event_in_place(
-            registers,
-            program.as_ptr(),
-            program.len(),
-            rom.as_ptr(),
-            rom.len(),
-            ram.as_mut_ptr(),
-            ram.len(),
-            Event { kind, value },
-        )
-    }
+    // SAFETY: a call of the library.
+    unsafe { in_place(bemulatsho_event_in_place, registers, program, rom, ram, Event { kind, value }) }
 }
 
 /// The registers of a machine that has run nothing.

@@ -1,7 +1,8 @@
-//! Events: record, images and RAM at a guard each; damaged records and wrong lengths are lent too.
+//! Events of both chips: record, images and RAM at a guard each; damaged records and wrong lengths are lent too.
 
+use crate::chips::{Chip, Upd77c25, Upd77p20};
 use crate::pages::{Guard, Guarded};
-use bemulatsho::{event, Registers};
+use bemulatsho::Registers;
 use random::Random;
 
 fn flags(bits: u64) -> bemulatsho::Flags {
@@ -10,11 +11,11 @@ fn flags(bits: u64) -> bemulatsho::Flags {
 }
 
 /// A record that fits, or one of any numbers at all.
-fn record(random: &mut Random, fits: bool) -> Registers {
-    let pointer = |random: &mut Random, limit: u32| if fits { random.below(limit) as u16 } else { random.word() };
-    Registers {
-        pc: pointer(random, 512),
-        stack: [pointer(random, 512), pointer(random, 512), pointer(random, 512), pointer(random, 512)],
+fn record<C: Chip>(random: &mut Random, fits: bool) -> C::Record {
+    let pointer = |random: &mut Random, limit: usize| if fits { random.place(limit) as u16 } else { random.word() };
+    let registers = Registers {
+        pc: pointer(random, C::WORDS),
+        stack: std::array::from_fn(|_| pointer(random, C::WORDS)),
         flags: bemulatsho::BothFlags { a: flags(random.next()), b: flags(random.next()) },
         si: random.word(),
         siack: random.flag(),
@@ -26,30 +27,45 @@ fn record(random: &mut Random, fits: bool) -> Registers {
         tr: random.word(),
         dr: random.word(),
         so: random.word(),
-        dp: pointer(random, 128),
-        rp: pointer(random, 512),
+        dp: pointer(random, C::RAM),
+        rp: pointer(random, C::CELLS),
         sr: random.word() & if fits { 0xff83 } else { 0xffff },
         soack: random.flag(),
         sorq: random.flag(),
+    };
+    C::record(registers, random)
+}
+
+/// The right length, none, one less, one more, or any.
+fn length(random: &mut Random, right: usize) -> usize {
+    match random.below(5) {
+        0 => right,
+        1 => 0,
+        2 => right - 1,
+        3 => right + 1,
+        _ => random.place(2 * right),
     }
 }
 
-/// Bits of a word that may be 1: all, those of 23 bits, and those that a jump or a call on no condition may have.
-const BITS: [u32; 8] = [u32::MAX, 0x7f_ffff, 0x7f_ffff, 0x7f_ffff, 0x7f_ffff, 0x7c_1ff0, 0x7c_1ff0, 0x7c_1ff0];
+/// A word: one in eight of all bits, four of the chip's, three of a jump or a call.
+fn word<C: Chip>(random: &mut Random) -> u32 {
+    random.next() as u32 & C::BITS[random.pick(&[0, 1, 1, 1, 1, 2, 2, 2])]
+}
 
-fn nothing_outside(guard: Guard) {
+fn nothing_outside<C: Chip>(guard: Guard) {
     let mut random = Random::new(0x7720);
     let (mut records, mut programs, mut roms, mut rams) = (Guarded::new(), Guarded::new(), Guarded::new(), Guarded::new());
+    let mut numbers = [0u32; 19];
     for turn in 0..200_000 {
         let wrong_lengths = turn % 8 == 0;
-        let mut length = |right: usize| if wrong_lengths { random.place(2 * right) } else { right };
-        let (words, cells, ram_cells) = (length(512), length(512), length(128));
+        let mut length = |right: usize| if wrong_lengths { length(&mut random, right) } else { right };
+        let (words, cells, ram_cells) = (length(C::WORDS), length(C::CELLS), length(C::RAM));
         let program = programs.slice::<u32>(guard, words);
         let rom = roms.slice::<u16>(guard, cells);
         let ram = rams.slice::<u16>(guard, ram_cells);
         for _ in 0..8 {
-            if let Some(word) = program.get_mut(random.place(words)) {
-                *word = random.next() as u32 & random.pick(&BITS);
+            if let Some(place) = program.get_mut(random.place(words)) {
+                *place = word::<C>(&mut random);
             }
             if let Some(cell) = rom.get_mut(random.place(cells)) {
                 *cell = random.word();
@@ -58,21 +74,33 @@ fn nothing_outside(guard: Guard) {
                 *cell = random.word();
             }
         }
-        let registers = &mut records.slice::<Registers>(guard, 1)[0];
-        *registers = record(&mut random, turn % 4 != 1);
+        let registers = &mut records.slice::<C::Record>(guard, 1)[0];
+        *registers = record::<C>(&mut random, turn % 4 != 1);
         let (kind, value) = (random.below(9), random.below(40));
-        let reply = event(registers, program, rom, ram, kind, if kind == 0 || kind == 2 || kind == 4 { value } else { 0 });
-        assert!(matches!(reply.number, 0..=10 | 18));
+        let reply = C::event(registers, program, rom, ram, kind, if kind == 0 || kind == 2 || kind == 4 { value } else { 0 });
+        numbers[usize::from(reply.number)] += 1;
         assert!(reply.number == 0 || reply.value == 0);
     }
+    let given: Vec<u8> = (0..19).filter(|number| numbers[usize::from(*number)] > 0).collect();
+    assert_eq!(given, C::NUMBERS, "{numbers:?}");
 }
 
 #[test]
 fn nothing_is_touched_behind_what_was_lent() {
-    nothing_outside(Guard::After);
+    nothing_outside::<Upd77p20>(Guard::After);
 }
 
 #[test]
 fn nothing_is_touched_before_what_was_lent() {
-    nothing_outside(Guard::Before);
+    nothing_outside::<Upd77p20>(Guard::Before);
+}
+
+#[test]
+fn nothing_is_touched_behind_what_was_lent_to_the_77c25() {
+    nothing_outside::<Upd77c25>(Guard::After);
+}
+
+#[test]
+fn nothing_is_touched_before_what_was_lent_to_the_77c25() {
+    nothing_outside::<Upd77c25>(Guard::Before);
 }
