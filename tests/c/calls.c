@@ -4,127 +4,16 @@
  */
 #include "bemulatsho.h"
 
+#include "answers.h"
 #include "checks.h"
-
-static const char *name_of(uint8_t number)
-{
-    switch (number) {
-    case BEMULATSHO_DONE:
-        return "done";
-    case BEMULATSHO_REFUSED_LENGTH:
-        return "length";
-    case BEMULATSHO_REFUSED_REGISTERS:
-        return "registers";
-    case BEMULATSHO_REFUSED_EVENT:
-        return "event";
-    case BEMULATSHO_REFUSED_WORD:
-        return "word";
-    case BEMULATSHO_REFUSED_BRANCH:
-        return "branch";
-    case BEMULATSHO_REFUSED_SOURCE:
-        return "source";
-    case BEMULATSHO_REFUSED_CELL:
-        return "cell";
-    case BEMULATSHO_REFUSED_RETURN:
-        return "return";
-    case BEMULATSHO_REFUSED_PUSH:
-        return "push";
-    case BEMULATSHO_REFUSED_SERIAL:
-        return "serial";
-    case BEMULATSHO_REFUSED_FIELD:
-        return "field";
-    case BEMULATSHO_REFUSED_UNUSED:
-        return "unused bits";
-    default:
-        return "no number of the list";
-    }
-}
-
-static void check_reply(struct bemulatsho_reply reply, unsigned number, unsigned words, unsigned value, int line)
-{
-    if (reply.number != number || reply.words != words || reply.value != value) {
-        fprintf(stderr, "calls.c:%d: the reply is %u (%s), %u words, value %04XH; expected %u, %u, %04XH\n", line,
-                (unsigned)reply.number, name_of(reply.number), (unsigned)reply.words, (unsigned)reply.value, number, words,
-                value);
-        exit(1);
-    }
-    checks++;
-}
-
-#define REPLY(reply, number, words, value) check_reply((reply), (number), (words), (value), __LINE__)
+#include "limits.h"
+#include "machine.h"
 
 /* ---- what is lent */
 
-struct machine {
-    struct bemulatsho_registers *registers;
-    uint32_t *program;
-    size_t program_length;
-    uint16_t *rom;
-    size_t rom_length;
-    uint16_t *ram;
-    size_t ram_length;
-};
-
-/* Fresh registers, and images and RAM of 0. */
-static struct machine lend_lengths(size_t program_length, size_t rom_length, size_t ram_length)
-{
-    struct machine m;
-    m.registers = (struct bemulatsho_registers *)lend(1, sizeof *m.registers);
-    *m.registers = bemulatsho_fresh_registers();
-    m.program = (uint32_t *)lend(program_length, sizeof *m.program);
-    m.program_length = program_length;
-    m.rom = (uint16_t *)lend(rom_length, sizeof *m.rom);
-    m.rom_length = rom_length;
-    m.ram = (uint16_t *)lend(ram_length, sizeof *m.ram);
-    m.ram_length = ram_length;
-    return m;
-}
-
 static struct machine lend_machine(void)
 {
-    return lend_lengths(512, 512, 128);
-}
-
-static void give_back(struct machine m)
-{
-    free(m.registers);
-    free(m.program);
-    free(m.rom);
-    free(m.ram);
-}
-
-static struct bemulatsho_reply call(struct machine m, uint32_t kind, uint32_t value)
-{
-    struct bemulatsho_event event;
-    event.kind = kind;
-    event.value = value;
-    return bemulatsho_event_in_place(m.registers, m.program, m.program_length, m.rom, m.rom_length, m.ram, m.ram_length,
-                                     event);
-}
-
-/* The record and the RAM as they are now, to be compared with later. */
-struct state {
-    struct bemulatsho_registers registers;
-    uint16_t *ram;
-};
-
-static struct state state_of(struct machine m)
-{
-    struct state s;
-    s.registers = *m.registers;
-    s.ram = (uint16_t *)lend(m.ram_length, sizeof *s.ram);
-    memcpy(s.ram, m.ram, m.ram_length * sizeof *s.ram);
-    return s;
-}
-
-static bool same_registers(const struct bemulatsho_registers *x, const struct bemulatsho_registers *y)
-{
-    return memcmp(x, y, sizeof *x) == 0;
-}
-
-static bool same_state(struct machine m, const struct state *s)
-{
-    return same_registers(m.registers, &s->registers) && memcmp(m.ram, s->ram, m.ram_length * sizeof *s->ram) == 0;
+    return lend_77p20(512, 512, 128);
 }
 
 /* Every register at a value of its own, so that a change of any shows. */
@@ -162,17 +51,6 @@ static void fill_ram(struct machine m)
         m.ram[i] = (uint16_t)(0x7700 + i);
 }
 
-/* One event that is refused and leaves everything as it was. */
-static void check_refused(struct machine m, uint32_t kind, uint32_t value, unsigned number, int line)
-{
-    struct state before = state_of(m);
-    check_reply(call(m, kind, value), number, 0, 0, line);
-    check(same_state(m, &before), "a refused event changes nothing", line);
-    free(before.ram);
-}
-
-#define REFUSED(m, kind, value, number) check_refused((m), (kind), (value), (number), __LINE__)
-
 /* ---- version, fresh registers */
 
 static void version(void)
@@ -190,19 +68,9 @@ static void fresh_registers(void)
 
 /* ---- words taken apart and built */
 
-static bool op_is_0(struct bemulatsho_op_fields f)
-{
-    return f.psel == 0 && f.alu == 0 && f.asl == 0 && f.dpl == 0 && f.dphm == 0 && f.rpdcr == 0 && f.src == 0 && f.dst == 0;
-}
-
 static bool jp_is_0(struct bemulatsho_jp_fields f)
 {
     return f.brch == 0 && f.cnd == 0 && f.na == 0 && f.spare == 0;
-}
-
-static bool ldi_is_0(struct bemulatsho_ldi_fields f)
-{
-    return f.id == 0 && f.spare == 0 && f.dst == 0;
 }
 
 static void take_apart(void)
@@ -583,59 +451,18 @@ static void lengths(void)
         {512, 512, 127}, {512, 512, 129}, {512, 512, 0}, {0, 0, 0},
     };
     for (size_t i = 0; i < sizeof wrong / sizeof *wrong; i++) {
-        struct machine m = lend_lengths(wrong[i][0], wrong[i][1], wrong[i][2]);
+        struct machine m = lend_77p20(wrong[i][0], wrong[i][1], wrong[i][2]);
         fill_registers(m.registers);
         fill_ram(m);
-        for (uint32_t kind = 0; kind <= 7; kind++)
-            REFUSED(m, kind, 0, BEMULATSHO_REFUSED_LENGTH);
-        /* the lowest number is given: 1 also where 2 and 3 apply */
-        m.registers->pc = 512;
-        REFUSED(m, 8, 0, 1);
+        check_wrong_length(m, __LINE__);
         give_back(m);
     }
-}
-
-static void check_unfit(struct machine m, int line)
-{
-    for (uint32_t kind = 0; kind <= 7; kind++)
-        check_refused(m, kind, 0, BEMULATSHO_REFUSED_REGISTERS, line);
-    /* 2 comes before 3 */
-    check_refused(m, 8, 0, 2, line);
-    *m.registers = bemulatsho_fresh_registers();
-    check_reply(call(m, BEMULATSHO_EVENT_RUN, 1), 0, 1, 0, line);
 }
 
 static void registers_that_do_not_fit(void)
 {
     struct machine m = lend_machine();
-    struct bemulatsho_registers *r = m.registers;
-    r->pc = 512;
-    check_unfit(m, __LINE__);
-    r->stack0 = 512;
-    check_unfit(m, __LINE__);
-    r->stack1 = 512;
-    check_unfit(m, __LINE__);
-    r->stack2 = 512;
-    check_unfit(m, __LINE__);
-    r->stack3 = 0xFFFF; /* above the depth, which is 0 */
-    check_unfit(m, __LINE__);
-    r->dp = 128;
-    check_unfit(m, __LINE__);
-    r->rp = 512;
-    check_unfit(m, __LINE__);
-    r->depth = 5;
-    check_unfit(m, __LINE__);
-    for (unsigned bit = 2; bit <= 6; bit++) {
-        r->sr = (uint16_t)(1u << bit);
-        CHECK((r->sr & BEMULATSHO_SR_UNUSED) != 0);
-        check_unfit(m, __LINE__);
-    }
-    /* the widest that fit; 0xFF83 is every bit but 6 to 2 */
-    r->pc = r->stack0 = r->stack1 = r->stack2 = r->stack3 = r->rp = 511;
-    r->dp = 127;
-    r->depth = 4;
-    r->sr = 0xFF83;
-    REPLY(call(m, BEMULATSHO_EVENT_RUN, 1), 0, 1, 0);
+    check_registers(m, 512, 512, 128, __LINE__);
     give_back(m);
 }
 
