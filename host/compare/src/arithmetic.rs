@@ -3,7 +3,7 @@
 
 use crate::chip_values::CORNERS;
 use crate::pair::{Difference, Pair};
-use emulator::Registers;
+use emulator::{Chip, Registers, Sizes};
 use random::Random;
 
 const RANDOM_PAIRS: u32 = 500_000;
@@ -12,8 +12,13 @@ const RANDOM_PAIRS: u32 = 500_000;
 struct OneWord(Pair);
 
 impl OneWord {
+    /// Of the 77P20.
     fn new(word: u32) -> OneWord {
-        OneWord(Pair::new(&[word]))
+        OneWord::of(Chip::Upd77p20, word)
+    }
+
+    fn of(chip: Chip, word: u32) -> OneWord {
+        OneWord(Pair::new(chip, &[word]))
     }
 
     fn on(&mut self, registers: Registers) -> Result<(), Box<Difference>> {
@@ -113,19 +118,26 @@ fn reversals() -> Result<u64, Box<Difference>> {
     Ok(2 << 16)
 }
 
-/// Every step of every pointer that fits.
-fn pointers() -> Result<u64, Box<Difference>> {
+/// Every step of every pointer that fits. RPDCR is D8 on both chips, and DPL stands above DPH-M, whose lowest bit is D9.
+fn pointers(chip: Chip) -> Result<u64, Box<Difference>> {
+    let Sizes { words, cells, ram, .. } = chip.sizes();
     let mut compared = 0;
-    for pc in 0..512 {
-        OneWord::new(0).on(Registers { pc, ..Registers::default() })?;
-        OneWord::new(1 << 8).on(Registers { rp: pc, ..Registers::default() })?;
-        compared += 2;
+    let mut step = |word: &mut OneWord, registers: Registers| {
+        compared += 1;
+        word.on(registers)
+    };
+    let (mut nothing, mut rp_down) = (OneWord::of(chip, 0), OneWord::of(chip, 1 << 8));
+    for pc in 0..words as u16 {
+        step(&mut nothing, Registers { pc, ..Registers::default() })?;
     }
-    for moved in 0..32 {
-        let mut word = OneWord::new(moved << 9);
-        for dp in 0..128 {
-            word.on(Registers { dp, ..Registers::default() })?;
-            compared += 1;
+    for rp in 0..cells as u16 {
+        step(&mut rp_down, Registers { rp, ..Registers::default() })?;
+    }
+    let rows = ram / 16;
+    for moved in 0..4 * rows as u32 {
+        let mut word = OneWord::of(chip, moved << 9);
+        for dp in 0..ram as u16 {
+            step(&mut word, Registers { dp, ..Registers::default() })?;
         }
     }
     Ok(compared)
@@ -139,6 +151,7 @@ pub fn compare(seed: u64) -> Result<Vec<(&'static str, u64)>, Box<Difference>> {
         ("two-operand operations", two_operands(&mut random)?),
         ("products, M and N", products(&mut random)?),
         ("reversals (every value)", reversals()?),
-        ("pointer steps (every pointer that fits)", pointers()?),
+        ("pointer steps of the 77P20 (every pointer that fits)", pointers(Chip::Upd77p20)?),
+        ("pointer steps of the 77C25 (every pointer that fits)", pointers(Chip::Upd77c25)?),
     ])
 }

@@ -1,10 +1,11 @@
-//! Random machines and sequences of events: the proved core against the emulator after every event.
+//! Random machines of either chip and sequences of events: the proved core against the emulator after every event.
 
 use crate::chip_values::ChipValues;
 use crate::coverage::Coverage;
 use crate::pair::{Difference, Pair};
+use crate::programs;
 use crate::states;
-use emulator::{Reply, RAM};
+use emulator::{Chip, Reply, Sizes};
 use random::Random;
 
 /// Events of one machine; then another is made.
@@ -49,7 +50,8 @@ fn words(random: &mut Random) -> u32 {
 }
 
 /// A call whose program, data ROM or RAM has another length.
-fn with_a_wrong_length(random: &mut Random, pair: &Pair) -> Pair {
+fn with_a_wrong_length(chip: Chip, random: &mut Random, pair: &Pair) -> Pair {
+    let Sizes { words, cells, ram, .. } = chip.sizes();
     let mut short = pair.clone();
     let length = |random: &mut Random, right: usize| match random.below(4) {
         0 => 0,
@@ -58,20 +60,20 @@ fn with_a_wrong_length(random: &mut Random, pair: &Pair) -> Pair {
         _ => random.place(2 * right),
     };
     match random.below(3) {
-        0 => short.program.resize(length(random, 512), 0),
-        1 => short.rom.resize(length(random, 512), 0),
-        _ => short.ram.resize(length(random, RAM), 0),
+        0 => short.program.resize(length(random, words), 0),
+        1 => short.rom.resize(length(random, cells), 0),
+        _ => short.ram.resize(length(random, ram), 0),
     }
     short
 }
 
 /// The words of a run as the emulator does them, one by one.
-fn trace(coverage: &mut Coverage, pair: &Pair, words: u32) {
+fn trace(chip: Chip, coverage: &mut Coverage, pair: &Pair, words: u32) {
     let (mut registers, mut ram) = (pair.registers, pair.ram.clone());
     for _ in 0..words {
         let before = registers;
-        let Ok(word) = emulator::take_apart(pair.program[usize::from(before.pc)]) else { return };
-        if let Err(number) = emulator::step(&mut registers, &pair.program, &pair.rom, &mut ram) {
+        let Ok(word) = emulator::take_apart_on(chip, pair.program[usize::from(before.pc)]) else { return };
+        if let Err(number) = emulator::step_on(chip, &mut registers, &pair.program, &pair.rom, &mut ram) {
             coverage.refused(&word, number);
             return;
         }
@@ -80,37 +82,38 @@ fn trace(coverage: &mut Coverage, pair: &Pair, words: u32) {
 }
 
 /// One machine and its events.
-fn machine(seed: u64, coverage: &mut Coverage) -> Result<u64, Failure> {
+fn machine(chip: Chip, seed: u64, coverage: &mut Coverage) -> Result<u64, Failure> {
     let mut random = Random::new(seed);
-    let registers = states::fitting_registers(&mut random);
-    let mut pair = Pair::lent(registers, states::program(&mut random), states::rom(&mut random), states::ram(&mut random));
+    let registers = states::fitting_registers(chip, &mut random);
+    let program = programs::program(chip, &mut random);
+    let mut pair = Pair::lent(chip, registers, program, states::rom(chip, &mut random), states::ram(chip, &mut random));
     for count in 0..EVENTS {
         let (kind, value) = event(&mut random);
         let before = pair.registers;
         let failure = |difference| Failure { seed, event: count, difference };
         let reply = if random.one_in(40) {
-            pair.registers = states::damaged(&mut random, &before);
+            pair.registers = states::damaged(chip, &mut random, &before);
             let reply = pair.event(kind, value).map_err(failure)?;
             pair.registers = before;
             reply
         } else if random.one_in(40) {
-            with_a_wrong_length(&mut random, &pair).event(kind, value).map_err(failure)?
+            with_a_wrong_length(chip, &mut random, &pair).event(kind, value).map_err(failure)?
         } else {
             if kind == 0 && random.one_in(4) {
-                trace(coverage, &pair, value.min(65535));
+                trace(chip, coverage, &pair, value.min(65535));
             }
             pair.event(kind, value).map_err(failure)?
         };
         coverage.reply(kind, &before, reply.number);
-        unstick(&mut random, &mut pair, &reply);
+        unstick(chip, &mut random, &mut pair, &reply);
     }
     Ok(u64::from(EVENTS))
 }
 
 /// A refused word would be refused again: the caller may change its record between calls, and does.
-fn unstick(random: &mut Random, pair: &mut Pair, reply: &Reply) {
+fn unstick(chip: Chip, random: &mut Random, pair: &mut Pair, reply: &Reply) {
     if matches!(reply.number, 4..=9 | 18) {
-        let fresh = states::fitting_registers(random);
+        let fresh = states::fitting_registers(chip, random);
         pair.registers.pc = fresh.pc;
         pair.registers.depth = fresh.depth;
         pair.registers.rp = fresh.rp;
@@ -118,11 +121,11 @@ fn unstick(random: &mut Random, pair: &mut Pair, reply: &Reply) {
 }
 
 /// So many events on machines of consecutive seeds.
-pub fn compare(first_seed: u64, events: u64, coverage: &mut Coverage, progress: impl Fn(u64)) -> Result<u64, Failure> {
+pub fn compare(chip: Chip, first_seed: u64, events: u64, coverage: &mut Coverage, progress: impl Fn(u64)) -> Result<u64, Failure> {
     let mut done = 0;
     let mut seed = first_seed;
     while done < events {
-        done += machine(seed, coverage)?;
+        done += machine(chip, seed, coverage)?;
         seed += 1;
         progress(done);
     }

@@ -1,4 +1,4 @@
-//! Holds the proved core, through the desk's library, against the independent emulator, and the proved readers and writer of texts against
+//! Holds the proved core of both chips, through the desk's library, against the independent emulator, and the proved readers and writer of texts against
 //! second ones. Prints what was compared; the first difference is printed with what was lent and ends it with status 1.
 
 #[macro_use]
@@ -6,6 +6,7 @@ mod listed;
 
 mod arithmetic;
 mod chip_values;
+mod chips;
 mod coverage;
 mod every_word;
 mod listings;
@@ -13,11 +14,16 @@ mod machines;
 mod mixing;
 mod pair;
 mod presets;
+mod programs;
+mod proved;
 mod states;
 mod texts;
 mod tracks;
+mod widths;
 
+use chips::CHIPS;
 use coverage::Coverage;
+use emulator::Chip;
 use std::io::{stderr, IsTerminal};
 use std::process::exit;
 
@@ -30,11 +36,15 @@ fn main() {
     let arguments: Vec<String> = std::env::args().skip(1).collect();
     let result = match arguments.iter().map(String::as_str).collect::<Vec<_>>()[..] {
         [] => everything(),
-        ["machines", seed, events] => random_machines(number("seed", seed), number("number of events", events)),
+        ["machines", seed, events] => of_both(|chip| random_machines(chip, number("seed", seed), number("number of events", events))),
+        ["machines", seed, events, chip] => random_machines(named(chip), number("seed", seed), number("number of events", events)),
+        ["words", seed] => of_both(|chip| every_word(chip, number("seed", seed))),
+        ["words", seed, chip] => every_word(named(chip), number("seed", seed)),
         ["texts", seed, texts] => random_texts(number("seed", seed), number("number of texts", texts)),
         ["presets", seed, presets] => random_presets(number("seed", seed), number("number of presets", presets)),
         _ => {
-            eprintln!("usage: compare | compare machines SEED EVENTS | compare texts SEED TEXTS | compare presets SEED PRESETS");
+            eprintln!("usage: compare | compare machines SEED EVENTS [CHIP] | compare words SEED [CHIP]");
+            eprintln!("       compare texts SEED TEXTS | compare presets SEED PRESETS");
             exit(2);
         }
     };
@@ -51,6 +61,18 @@ fn number(what: &str, text: &str) -> u64 {
     })
 }
 
+fn named(text: &str) -> Chip {
+    chips::named(text).unwrap_or_else(|| {
+        eprintln!("compare: {text:?} is none of {}", CHIPS.map(chips::name).join(", "));
+        exit(2);
+    })
+}
+
+/// One chip after the other, up to the first difference.
+fn of_both(compare: impl FnMut(Chip) -> Result<(), String>) -> Result<(), String> {
+    CHIPS.into_iter().try_for_each(compare)
+}
+
 fn report(compared: u64, what: &str) {
     println!("compare: {compared:>9} {what}");
 }
@@ -59,10 +81,8 @@ fn everything() -> Result<(), String> {
     for (what, compared) in arithmetic::compare(SEED).map_err(|difference| difference.to_string())? {
         report(compared, what);
     }
-    random_machines(SEED, EVENTS)?;
-    let (words, unused_bits) = every_word::compare(SEED)?;
-    report(words, &format!("words: each of 2^23 run from a random state, taken apart and built; {unused_bits} refused with 18"));
-    report(every_word::compare_widths(SEED)?, "fields and words of any width, refusals 11 and 4 among them");
+    of_both(|chip| random_machines(chip, SEED, EVENTS))?;
+    of_both(|chip| every_word(chip, SEED))?;
     for line in listings::run()? {
         println!("compare: {line}");
     }
@@ -74,17 +94,26 @@ fn everything() -> Result<(), String> {
 }
 
 /// Random machines; a failure prints the seed of its machine and the smallest case.
-fn random_machines(seed: u64, events: u64) -> Result<(), String> {
-    let mut coverage = Coverage::new();
-    let done = machines::compare(seed, events, &mut coverage, progress(events, 1_000_000, "events")).map_err(|failure| {
+fn random_machines(chip: Chip, seed: u64, events: u64) -> Result<(), String> {
+    let mut coverage = Coverage::new(chip);
+    let done = machines::compare(chip, seed, events, &mut coverage, progress(events, 1_000_000, "events")).map_err(|failure| {
         format!("machine of seed {}, event {}, as small as it gets:\n{}", failure.seed, failure.event, failure.difference.smallest())
     })?;
-    let missing = coverage.missing();
-    if !missing.is_empty() {
-        return Err(format!("{done} events never met: {}", missing.join(", ")));
+    let (name, faults) = (chips::name(chip), coverage.faults());
+    if !faults.is_empty() {
+        return Err(format!("of {done} events on the {name}: {}", faults.join(", ")));
     }
-    let met = "every code, condition, refusal, field of unused bits, kind and answer to an interrupt met";
-    report(done, &format!("events on random machines from seed {seed}, {met}"));
+    let met = "every code, condition, way of a pointer, refusal, field of unused bits, kind and answer to an interrupt met";
+    report(done, &format!("events on random machines of the {name} from seed {seed}, {met}"));
+    Ok(())
+}
+
+/// Every word, and fields and words of any width.
+fn every_word(chip: Chip, seed: u64) -> Result<(), String> {
+    let (words, refused) = every_word::compare(chip, seed)?;
+    let name = chips::name(chip);
+    report(words, &format!("words: each of the {name} run from a random state, taken apart and built; refused were {refused}"));
+    report(widths::compare(chip, seed)?, &format!("fields and words of any width of the {name}, refusals 11 and 4 among them"));
     Ok(())
 }
 

@@ -1,12 +1,13 @@
 //! The mixing loop for 20 million words: its state is known from other emulators of the chip.
 
+use emulator::Chip;
 use speed::programs::{mixing_loop, MIXED_20_MILLION};
 
 const WORDS: u32 = 20_000_000;
 const CALL: u32 = 65535;
 
 pub fn compare() -> Result<u64, String> {
-    let mut program = mixing_loop();
+    let mut program = mixing_loop(Chip::Upd77p20);
     let mut r = bemulatsho::fresh_registers();
     let mut left = WORDS;
     while left > 0 {

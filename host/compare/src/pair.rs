@@ -1,12 +1,15 @@
 //! One machine twice: the proved core through the C interface, and the emulator. Every event goes to both; the first difference in
 //! the reply, a register or the RAM is handed back with what was lent.
 
-use emulator::{Flags, Registers, Reply};
+use crate::chips;
+use crate::proved::{self, Record};
+use emulator::{Chip, Registers, Reply};
 use std::fmt;
 
 /// What is lent to a call, and the record that goes from call to call.
 #[derive(Clone)]
 pub struct Pair {
+    chip: Chip,
     pub registers: Registers,
     pub program: Vec<u32>,
     pub rom: Vec<u16>,
@@ -27,21 +30,22 @@ pub struct Difference {
 
 struct Answer {
     reply: Reply,
-    registers: bemulatsho::Registers,
+    registers: Record,
     ram: Vec<u16>,
 }
 
 impl Pair {
     /// A program that begins with these words, on a machine that has run nothing.
-    pub fn new(words: &[u32]) -> Pair {
-        let mut program = vec![0; emulator::WORDS];
+    pub fn new(chip: Chip, words: &[u32]) -> Pair {
+        let sizes = chip.sizes();
+        let mut program = vec![0; sizes.words];
         program[..words.len()].copy_from_slice(words);
-        Pair::lent(Registers::default(), program, vec![0; emulator::CELLS], vec![0; emulator::RAM])
+        Pair::lent(chip, Registers::default(), program, vec![0; sizes.cells], vec![0; sizes.ram])
     }
 
     /// Any registers, images and RAM.
-    pub fn lent(registers: Registers, program: Vec<u32>, rom: Vec<u16>, ram: Vec<u16>) -> Pair {
-        Pair { registers, program, rom, ram, core_ram: Vec::new(), saved_ram: Vec::new() }
+    pub fn lent(chip: Chip, registers: Registers, program: Vec<u32>, rom: Vec<u16>, ram: Vec<u16>) -> Pair {
+        Pair { chip, registers, program, rom, ram, core_ram: Vec::new(), saved_ram: Vec::new() }
     }
 
     /// One event on both; the state after it is kept where they agree.
@@ -49,11 +53,10 @@ impl Pair {
         let saved = self.registers;
         self.saved_ram.clone_from(&self.ram);
         self.core_ram.clone_from(&self.ram);
-        let mut core = core_record(&self.registers);
-        let proved = bemulatsho::event(&mut core, &self.program, &self.rom, &mut self.core_ram, kind, value);
-        let proved = Reply { number: proved.number, words: proved.words, value: proved.value };
-        let second = emulator::event(&mut self.registers, &self.program, &self.rom, &mut self.ram, kind, value);
-        let second_record = core_record(&self.registers);
+        let mut core = proved::record(&self.registers);
+        let proved = proved::event(self.chip, &mut core, &self.program, &self.rom, &mut self.core_ram, kind, value);
+        let second = emulator::event_on(self.chip, &mut self.registers, &self.program, &self.rom, &mut self.ram, kind, value);
+        let second_record = proved::record(&self.registers);
         if proved == second && core == second_record && self.core_ram == self.ram {
             return Ok(second);
         }
@@ -92,13 +95,13 @@ fn last_word(difference: Difference) -> Difference {
 impl fmt::Display for Difference {
     fn fmt(&self, f: &mut fmt::Formatter) -> fmt::Result {
         let Difference { before, kind, value, proved, second } = self;
-        writeln!(f, "event {kind} with value {value:X}H is answered differently")?;
+        writeln!(f, "{}: event {kind} with value {value:X}H is answered differently", chips::name(before.chip))?;
         writeln!(f, "  lent: program of {}, data ROM of {}, RAM of {}", before.program.len(), before.rom.len(), before.ram.len())?;
         let pc = usize::from(before.registers.pc);
         if let Some(word) = before.program.get(pc) {
-            writeln!(f, "  word at PC: {word:06X}H {:?}", emulator::take_apart(*word).ok())?;
+            writeln!(f, "  word at PC: {word:06X}H {:?}", emulator::take_apart_on(before.chip, *word).ok())?;
         }
-        writeln!(f, "  before: {:X?}", core_record(&before.registers))?;
+        writeln!(f, "  before: {:X?}", proved::record(&before.registers))?;
         writeln!(f, "  proved: {:X?} {:X?}", proved.reply, proved.registers)?;
         writeln!(f, "  second: {:X?} {:X?}", second.reply, second.registers)?;
         for (place, (one, other)) in proved.ram.iter().zip(&second.ram).enumerate() {
@@ -107,32 +110,5 @@ impl fmt::Display for Difference {
             }
         }
         Ok(())
-    }
-}
-
-fn core_flags(f: &Flags) -> bemulatsho::Flags {
-    bemulatsho::Flags { s1: f.s1, s0: f.s0, c: f.c, z: f.z, ov1: f.ov1, ov0: f.ov0 }
-}
-
-fn core_record(r: &Registers) -> bemulatsho::Registers {
-    bemulatsho::Registers {
-        pc: r.pc,
-        stack: r.stack,
-        flags: bemulatsho::BothFlags { a: core_flags(&r.flags_a), b: core_flags(&r.flags_b) },
-        si: r.si,
-        siack: r.siack,
-        depth: r.depth,
-        a: r.a,
-        b: r.b,
-        k: r.k,
-        l: r.l,
-        tr: r.tr,
-        dr: r.dr,
-        so: r.so,
-        dp: r.dp,
-        rp: r.rp,
-        sr: r.sr,
-        soack: r.soack,
-        sorq: r.sorq,
     }
 }

@@ -2,6 +2,7 @@
 //! exact arithmetic: what is sent is never above the exact sum, held within 16 bits, and by at most 32767/32768 below it for each source.
 
 use crate::pair::Pair;
+use emulator::Chip;
 
 const TRACKS: usize = 12;
 const RATE: usize = 8000;
@@ -69,7 +70,7 @@ pub fn compare() -> Result<(u64, u64), String> {
     let (mut compared, mut clipped) = (0, 0);
     for track in 0..TRACKS {
         let gains = gains(track);
-        let mut pair = Pair::new(&PROGRAM);
+        let mut pair = Pair::new(Chip::Upd77p20, &PROGRAM);
         for (cell, gain) in pair.ram.iter_mut().zip(gains) {
             *cell = gain as u16;
         }

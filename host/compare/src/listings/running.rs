@@ -4,7 +4,7 @@ use super::assembly::assembled;
 use super::line::Line;
 use crate::chip_values::ChipValues;
 use crate::pair::Pair;
-use emulator::{Registers, Reply};
+use emulator::{Chip, Registers, Reply};
 use random::Random;
 use std::fmt::Debug;
 
@@ -33,7 +33,7 @@ impl Run {
             }
         }
         let words: Vec<u32> = program.iter().map(|line| line.word).collect();
-        Ok(Run { listing, pair: Pair::new(&words) })
+        Ok(Run { listing, pair: Pair::new(Chip::Upd77p20, &words) })
     }
 
     /// Puts anything in every register that a listing finds as its caller left it; what it asks for is set afterwards.
