@@ -12,10 +12,11 @@ CARGO := $(FOR_X86_64) $(CARGO)
 BUILT = host/target/x86_64-unknown-linux-gnu/release
 endif
 
-# Longer comparisons: `make compare-long SEED=1 EVENTS=500000000`, `make compare-texts SEED=1 TEXTS=50000000`,
+# Longer comparisons: `make compare-long SEED=1 EVENTS=500000000 CHIP=77C25`, without CHIP of each chip; `make compare-texts SEED=1 TEXTS=50000000`,
 # `make compare-presets SEED=1 PRESETS=50000000`.
 SEED = 1
 EVENTS = 200000000
+CHIP =
 TEXTS = 20000000
 PRESETS = 20000000
 
@@ -44,9 +45,10 @@ test: kit generated
 kit:
 	@tools/kit
 
-# What a script writes or checks against the proved sources: the record's setters, the C header.
+# What a script writes or checks against the proved sources: the record's setters, the larger chip's walk, the C header.
 generated:
 	@tools/setters --check
+	@tools/in_place --check
 	@tools/header --check
 
 # The desk's library and its header, proved and compiled anew where what they are built from has changed.
@@ -57,13 +59,14 @@ lib:
 format: lib
 	@tools/format
 
-# The scripts that judge and build, the library from C, C++ and Rust, the report in a browser, texts of Intel HEX against other tools, and the proved
-# core, readers and writer against the independent ones.
+# The scripts that judge and build, the library from C, C++ and Rust, the report in a browser, texts of Intel HEX against other tools, the proved
+# core, readers and writer against the independent ones, and the core's instructions a word against their budget.
 compare: format desk
 	@tests/gate
 	@tests/refusals
 	@tests/kit
 	@tests/library
+	@tests/instructions
 	@$(FOR_X86_64) tests/c/run dist
 	@$(FOR_X86_64) tests/readme dist
 	@tests/first_commands
@@ -72,9 +75,10 @@ compare: format desk
 	@$(FOR_X86_64) tests/intel_hex dist
 	@cd host && $(CARGO) test --release
 	@cd host && $(CARGO) run --release --package compare
+	@tools/instructions
 
 compare-long: lib
-	@cd host && $(CARGO) run --release --package compare -- machines $(SEED) $(EVENTS)
+	@cd host && $(CARGO) run --release --package compare -- machines $(SEED) $(EVENTS) $(CHIP)
 
 compare-texts: lib
 	@cd host && $(CARGO) run --release --package compare -- texts $(SEED) $(TEXTS)

@@ -1,5 +1,8 @@
-//! What speed is measured on, and a yardstick for the machine.
+//! What speed is measured on, how instructions are counted, and a yardstick for the machine.
 
+pub mod assembly;
+pub mod instructions;
+pub mod machines;
 pub mod presets;
 pub mod programs;
 pub mod texts;

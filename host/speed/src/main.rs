@@ -2,42 +2,18 @@
 //! turn; the instructions that a word takes by callgrind; how many chips one core carries; what the processor could do meanwhile; how fast
 //! the desk mixes and checks tracks; and how fast texts are loaded, and presets loaded and written. A measurement, and no test.
 
-use speed::programs::{self, Program};
+use speed::instructions::{self, CALLGRIND};
+use speed::machines::{Chip, Runs, CALL, CHIPS, UPD77P20};
+use speed::programs::Program;
 use speed::{presets, texts, tracks, yardstick};
-use std::process::{exit, Command};
+use std::process::exit;
 use std::time::{Duration, Instant};
 
-/// Words of one call.
-const CALL: u32 = 65535;
 const ROUNDS: usize = 9;
 const SLICE: Duration = Duration::from_millis(150);
-/// The chip at 8 MHz, in words a second.
-const CHIP: f64 = 4e6;
-
-/// One machine that can be run on.
-trait Runs {
-    fn call(&mut self, program: &Program, ram: &mut [u16]) -> bool;
-}
-
-struct Core(bemulatsho::Registers);
-struct Emulator(emulator::Registers);
-
-impl Runs for Core {
-    fn call(&mut self, program: &Program, ram: &mut [u16]) -> bool {
-        let reply = bemulatsho::event(&mut self.0, &program.words, &program.rom, ram, 0, CALL);
-        reply.number == 0 && u32::from(reply.words) == CALL
-    }
-}
-
-impl Runs for Emulator {
-    fn call(&mut self, program: &Program, ram: &mut [u16]) -> bool {
-        let reply = emulator::event(&mut self.0, &program.words, &program.rom, ram, 0, CALL);
-        reply.number == 0 && u32::from(reply.words) == CALL
-    }
-}
 
 /// Million words a second over one slice of time.
-fn rate(machine: &mut impl Runs, program: &Program, ram: &mut [u16]) -> f64 {
+fn rate(machine: &mut dyn Runs, program: &Program, ram: &mut [u16]) -> f64 {
     let start = Instant::now();
     let mut calls = 0u64;
     while start.elapsed() < SLICE {
@@ -57,36 +33,19 @@ fn spread(mut rates: Vec<f64>) -> [f64; 3] {
 }
 
 /// The spread of the core's and of the emulator's rates, of their ratios, and of the yardstick, each round one after the other.
-fn measure(program: &Program) -> [[f64; 3]; 4] {
-    let (mut core, mut emulator) = (Core(bemulatsho::fresh_registers()), Emulator(emulator::Registers::default()));
+fn measure(chip: &Chip, program: &Program) -> [[f64; 3]; 4] {
+    let (mut core, mut emulator) = ((chip.fresh)(), chip.emulator());
     let (mut core_ram, mut emulator_ram) = (program.ram.clone(), program.ram.clone());
     let (mut cores, mut emulators, mut ratios, mut yardsticks) = (Vec::new(), Vec::new(), Vec::new(), Vec::new());
     for _ in 0..ROUNDS {
         yardsticks.push(yardstick::additions());
-        let proved = rate(&mut core, program, &mut core_ram);
+        let proved = rate(core.as_mut(), program, &mut core_ram);
         let second = rate(&mut emulator, program, &mut emulator_ram);
         cores.push(proved);
         emulators.push(second);
         ratios.push(proved / second);
     }
     [spread(cores), spread(emulators), spread(ratios), spread(yardsticks)]
-}
-
-/// Instructions a word of the core: callgrind over one call and over two; the difference is one call.
-fn instructions(place: usize) -> Option<f64> {
-    let counted = |calls: &str| {
-        let program = std::env::current_exe().ok()?;
-        let output = Command::new("valgrind")
-            .args(["--tool=callgrind", "--callgrind-out-file=/dev/null"])
-            .arg(program)
-            .args(["count", &place.to_string(), calls])
-            .output()
-            .ok()?;
-        let text = String::from_utf8_lossy(&output.stderr);
-        let count = text.lines().find_map(|line| line.split_once("Collected : "))?.1;
-        count.trim().parse::<f64>().ok()
-    };
-    Some((counted("2")? - counted("1")?) / f64::from(CALL))
 }
 
 /// What a program falls short of: at most 90 instructions (asked of the mixing loop), 1.3 times the emulator, 30 chips.
@@ -108,41 +67,25 @@ fn missed(place: usize, ratio: f64, instructions: Option<f64>, chips: f64) -> St
     }
 }
 
-fn table(programs: &[Program]) {
-    println!("million words a second, median of {ROUNDS} rounds in turn, {CALL} words a call");
+/// Of the 77P20's loops it says what they miss.
+fn table(chip: &Chip, programs: &[Program], loops: bool) {
+    println!("{}: million words a second, median of {ROUNDS} rounds in turn, {CALL} words a call", chip.name);
     println!("additions: thousand million a second that the processor did in between");
     println!(
         "{:<14}{:>8}{:>14}{:>10}{:>8}{:>14}{:>11}{:>8}",
         "program", "core", "least, most", "emulator", "ratio", "instructions", "additions", "chips"
     );
-    for program in programs {
-        let [[least, core, most], [_, emulator, _], [_, ratio, _], [_, additions, _]] = measure(program);
-        let place = programs::all().iter().position(|other| other.name == program.name);
-        let counted = place.and_then(instructions);
-        let printed = counted.map_or("no valgrind".to_string(), |count| format!("{count:.1}"));
-        let chips = core * 1e6 / CHIP;
-        let missed = place.filter(|place| *place < programs::LOOPS).map_or(String::new(), |place| missed(place, ratio, counted, chips));
+    for (place, program) in programs.iter().enumerate() {
+        let [[least, core, most], [_, emulator, _], [_, ratio, _], [_, additions, _]] = measure(chip, program);
+        let counted = instructions::a_word(&CALLGRIND, chip, program).map_err(|message| eprintln!("speed: {message}")).ok();
+        let printed = counted.map_or("not counted".to_string(), |count| format!("{count:.1}"));
+        let chips = core * 1e6 / chip.words_a_second;
+        let missed = if loops && chip.name == UPD77P20.name { missed(place, ratio, counted, chips) } else { String::new() };
         let range = format!("{least:.0}, {most:.0}");
         println!(
             "{:<14}{core:>8.1}{range:>14}{emulator:>10.1}{ratio:>8.2}{printed:>14}{additions:>11.1}{chips:>8.0}{missed}",
             program.name
         );
-    }
-}
-
-/// So many calls of one program on the core and nothing else, for a counter of instructions.
-fn count(place: &str, calls: &str) {
-    let programs = programs::all();
-    let (Some(program), Ok(calls)) = (place.parse().ok().and_then(|place: usize| programs.get(place)), calls.parse::<u32>()) else {
-        eprintln!("speed: count takes the number of a program, 0 to {}, and a number of calls", programs.len() - 1);
-        exit(2);
-    };
-    let (mut core, mut ram) = (Core(bemulatsho::fresh_registers()), program.ram.clone());
-    for _ in 0..calls {
-        if !core.call(program, &mut ram) {
-            eprintln!("speed: a word of the {} was refused", program.name);
-            exit(1);
-        }
     }
 }
 
@@ -158,7 +101,7 @@ fn main() {
     let arguments: Vec<String> = std::env::args().skip(1).collect();
     match arguments.iter().map(String::as_str).collect::<Vec<_>>()[..] {
         [] => {
-            table(&programs::all()[..programs::LOOPS]);
+            CHIPS.iter().for_each(|chip| table(chip, &chip.loops(), true));
             printed(tracks::table());
             printed(texts::table());
             printed(presets::table());
@@ -166,10 +109,13 @@ fn main() {
         ["tracks"] => printed(tracks::table()),
         ["texts"] => printed(texts::table()),
         ["presets"] => printed(presets::table()),
-        ["words"] => table(&programs::all()[programs::LOOPS..]),
-        ["count", place, calls] => count(place, calls),
+        ["words"] => CHIPS.iter().for_each(|chip| table(chip, &chip.alone(), false)),
+        ["instructions"] => printed(instructions::list(&CALLGRIND)),
+        ["instructions", ref counter @ ..] => printed(instructions::list(counter)),
+        ["count", chip, program, calls] => printed(instructions::count(chip, program, calls)),
         _ => {
-            eprintln!("usage: speed | speed words | speed tracks | speed texts | speed presets | speed count PROGRAM CALLS");
+            eprintln!("usage: speed | speed words | speed tracks | speed texts | speed presets");
+            eprintln!("       speed instructions [COUNTER ..] | speed count CHIP PROGRAM CALLS");
             exit(2);
         }
     }

@@ -1,4 +1,10 @@
-//! Three endless programs: the mixing loop, the manual's biquad called without end, and one that jumps more than it computes.
+//! Three endless programs for either chip: the mixing loop, the manual's biquad called without end, and one that jumps more than it computes.
+
+use crate::assembly::{alu, call, jump, mov, when, Line, NOTHING};
+use crate::assembly::{ADC, ADD, BUS, INC, JDPL0, JNCA, JNCB, JNOVA1, JNSB0, JNZA, JNZB, JSA0, M, N, SHR1, XOR};
+use emulator::bus as src;
+use emulator::destination as dst;
+use emulator::{Chip, OpFields};
 
 /// What a run is lent, and its name.
 #[derive(Clone)]
@@ -9,94 +15,120 @@ pub struct Program {
     pub ram: Vec<u16>,
 }
 
+/// Adds M to A.
+const ADD_M: OpFields = OpFields { psel: M, alu: ADD, ..NOTHING };
+/// Loads K from RAM and L from data ROM.
+const KLR: OpFields = OpFields { rpdcr: 1, src: src::MEM, dst: dst::KLR, ..NOTHING };
+/// Both at once.
+const ADD_M_KLR: OpFields = OpFields { psel: M, alu: ADD, ..KLR };
+
 /// Adds products of RAM and data ROM and sends the sum. After 20 million words from fresh registers its state is known from
-/// other emulators of the chip, with data ROM and RAM from a linear congruence.
-const MIXING_LOOP: [u32; 15] = [
-    0x600004, 0x601fe5, 0x098010, 0x09c020, 0x0011fb, 0x1ac030, 0x138030, 0x4b0090, 0x500040, 0x4980b0, 0x000071, 0x000219, 0x00101f,
-    0x00002f, 0x500000,
+/// other emulators of the 77P20, with data ROM and RAM from a linear congruence.
+const MIXING_LOOP: [Line; 15] = [
+    Line::Ldi(0, dst::DP),
+    Line::Ldi(255, dst::RP),
+    Line::Op(OpFields { psel: BUS, alu: XOR, asl: 0, src: src::A, ..NOTHING }),
+    Line::Op(OpFields { psel: BUS, alu: XOR, asl: 1, src: src::B, ..NOTHING }),
+    Line::Op(OpFields { dpl: 1, ..KLR }), // 4
+    Line::Op(OpFields { psel: N, alu: ADD, asl: 1, src: src::TR, ..NOTHING }),
+    Line::Op(OpFields { psel: M, alu: ADC, asl: 0, src: src::TR, ..NOTHING }),
+    when(JDPL0, 9),
+    jump(4),
+    when(JNOVA1, 0xb), // 9
+    mov(dst::A, src::SGN),
+    Line::Op(OpFields { dphm: 1, src: src::A, dst: dst::SOM, ..NOTHING }), // 0BH
+    Line::Op(OpFields { dpl: 1, src: src::A, dst: dst::MEM, ..NOTHING }),
+    mov(dst::MEM, src::B),
+    jump(0),
 ];
 
-/// PC, A, B, K, L, DP, RP and SO of the mixing loop after 20 million words.
+/// PC, A, B, K, L, DP, RP and SO of the mixing loop on the 77P20 after 20 million words.
 pub const MIXED_20_MILLION: [u16; 8] = [0x004, 0x04fb, 0xe250, 0x31df, 0xd078, 0x0c, 0x0f3, 0x7d51];
 
 /// The manual's BIQFIL (Example A) at 008H, and a loop at 0 that hands it its own output at half level with RP at its coefficients.
-const BIQUAD: [u32; 19] = [
-    0x603fe5, // LDI @RP,511
-    0x600004, // LDI @DP,0
-    0x058000, // OP  SHR1 ACCA
-    0x540080, // CALL BIQFIL
-    0x048000, // OP  INC ACCA
-    0x500000, // JMP 0
-    0x000000, 0x000000, 0x09811b, 0x1281fb, 0x1282d2, 0x1281fb, 0x12816d, 0x4980f0, 0x000071, 0x128213, 0x0001fb, 0x12823f, 0x32822f,
+const BIQUAD: [Line; 19] = [
+    Line::Ldi(511, dst::RP),
+    Line::Ldi(0, dst::DP),
+    alu(SHR1, 0),
+    call(8),
+    alu(INC, 0),
+    jump(0),
+    Line::Op(NOTHING),
+    Line::Op(NOTHING),
+    Line::Op(OpFields { psel: BUS, alu: XOR, src: src::A, ..KLR }), // 8
+    Line::Op(ADD_M_KLR),
+    Line::Op(OpFields { dphm: 1, src: src::K, dst: dst::B, ..ADD_M }),
+    Line::Op(ADD_M_KLR),
+    Line::Op(OpFields { rpdcr: 1, src: src::RO, dst: dst::L, ..ADD_M }),
+    when(JNOVA1, 0xf),
+    mov(dst::A, src::SGN),
+    Line::Op(OpFields { dphm: 1, src: src::A, dst: dst::TR, ..ADD_M }), // 0FH
+    Line::Op(KLR),
+    Line::Op(OpFields { dphm: 1, src: src::TR, dst: dst::MEM, ..ADD_M }),
+    Line::Rt(OpFields { dphm: 1, src: src::B, dst: dst::MEM, ..ADD_M }),
 ];
 
 /// Conditional jumps taken and not taken, a call, a return, and two words that count.
-const JUMPS: [u32; 16] = [
-    0x048000, // OP  INC ACCA
-    0x488030, // JNZA 3
-    0x500000, // JMP 0
-    0x4a2050, // JSA0 5
-    0x500060, // JMP 6
-    0x540100, // CALL 10H
-    0x04c000, // OP  INC ACCB
-    0x48c090, // JNZB 9
-    0x500000, // JMP 0
-    0x4800b0, // JNCA 0BH
-    0x5000b0, // JMP 0BH
-    0x4840d0, // JNCB 0DH
-    0x5000d0, // JMP 0DH
-    0x4b0000, // JDPL0 0
-    0x500000, // JMP 0
-    0x000000,
+const JUMPS: [Line; 17] = [
+    alu(INC, 0),
+    when(JNZA, 3),
+    jump(0),
+    when(JSA0, 5), // 3
+    jump(6),
+    call(0x10), // 5
+    alu(INC, 1),
+    when(JNZB, 9),
+    jump(0),
+    when(JNCA, 0xb), // 9
+    jump(0xb),
+    when(JNCB, 0xd), // 0BH
+    jump(0xd),
+    when(JDPL0, 0), // 0DH
+    jump(0),
+    Line::Op(NOTHING),
+    Line::Rt(NOTHING), // 10H: back at once
 ];
 
-fn lent(name: &'static str, words: &[u32]) -> Program {
+fn lent(chip: Chip, name: &'static str, lines: &[Line]) -> Program {
+    let sizes = chip.sizes();
     let mut x: u32 = 1;
-    let mut next = |limit: u32| {
+    let mut next = |bits: u32| {
         x = x.wrapping_mul(1_103_515_245).wrapping_add(12345);
-        ((x >> 16) % limit) as u16
+        ((x >> 16) % (1 << bits)) as u16
     };
-    let ram = (0..128).map(|_| next(65536)).collect();
-    let rom = (0..512).map(|_| next(8192)).collect();
-    let mut program = vec![0; 512];
-    program[..words.len()].copy_from_slice(words);
-    Program { name, words: program, rom, ram }
+    let ram = (0..sizes.ram).map(|_| next(16)).collect();
+    let rom = (0..sizes.cells).map(|_| next(sizes.cell_bits)).collect();
+    let mut words = vec![0; sizes.words];
+    words.iter_mut().zip(lines).for_each(|(word, line)| *word = line.word(chip));
+    Program { name, words, rom, ram }
 }
 
-pub fn mixing_loop() -> Program {
-    lent("mixing loop", &MIXING_LOOP)
+pub fn mixing_loop(chip: Chip) -> Program {
+    lent(chip, "mixing loop", &MIXING_LOOP)
 }
 
-pub fn biquad() -> Program {
-    lent("biquad", &BIQUAD)
+pub fn biquad(chip: Chip) -> Program {
+    lent(chip, "biquad", &BIQUAD)
 }
 
-pub fn jumps() -> Program {
-    let mut program = lent("jumps", &JUMPS);
-    // The routine that is called: back at once.
-    program.words[0x10] = 0x20_0000;
-    program
+pub fn jumps(chip: Chip) -> Program {
+    lent(chip, "jumps", &JUMPS)
 }
 
-/// 512 times the same word.
-fn alone(name: &'static str, word: u32) -> Program {
-    Program { words: vec![word; 512], ..lent(name, &[]) }
+pub fn loops(chip: Chip) -> Vec<Program> {
+    vec![mixing_loop(chip), biquad(chip), jumps(chip)]
 }
 
-/// How many of all are loops; the rest are words alone.
-pub const LOOPS: usize = 3;
-
-pub fn all() -> [Program; 10] {
-    [
-        mixing_loop(),
-        biquad(),
-        jumps(),
-        alone("LDI", 0x600004),
-        alone("move", 0x0000d3),
-        alone("jump untaken", 0x4a4000),
-        alone("word 0", 0x000000),
-        alone("SHR1", 0x058000),
-        alone("ADD M", 0x128000),
-        alone("ADD M, move", 0x1281fb),
+/// Words alone: as many times the same as a program has words.
+pub fn alone(chip: Chip) -> Vec<Program> {
+    let same = |name: &'static str, line: Line| lent(chip, name, &vec![line; chip.sizes().words]);
+    vec![
+        same("LDI", Line::Ldi(0, dst::DP)),
+        same("move", mov(dst::TR, src::K)),
+        same("jump untaken", when(JNSB0, 0)),
+        same("word 0", Line::Op(NOTHING)),
+        same("SHR1", alu(SHR1, 0)),
+        same("ADD M", Line::Op(ADD_M)),
+        same("ADD M, move", Line::Op(ADD_M_KLR)),
     ]
 }
