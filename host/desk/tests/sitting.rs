@@ -4,6 +4,7 @@
 
 mod held;
 
+use desk::chip::device::Device;
 use desk::chip::machine::Machine;
 use desk::scripts::given::Images;
 use desk::scripts::reader::Reader;
@@ -157,7 +158,7 @@ impl Trial {
 
     fn event(&mut self, kind: u32, value: u32) -> u16 {
         let Machine { program, rom, ram, .. } = &mut self.machine;
-        let reply = emulator::trial::event(&mut self.registers, program, rom, ram, kind, value);
+        let reply = emulator::trial::event(&mut self.registers, program, rom, ram.of_mut(Device::Upd77p20), kind, value);
         assert_eq!(reply.number, 0);
         reply.value
     }

@@ -1,5 +1,6 @@
 //! Events and their replies in words.
 
+use crate::chip::device::Device;
 use bemulatsho::{kind, Reply};
 use std::fmt;
 
@@ -44,8 +45,18 @@ impl fmt::Display for Event {
     }
 }
 
-/// What a reply's number means, in the words of the rules.
-pub fn meaning(number: u8) -> &'static str {
+/// What a reply's number means, in the words of the rules. 6 and 7 are of the 77P20 alone: the 77C25 has TRB as source 0, and its data ROM
+/// cells are as wide as the bus.
+pub fn meaning(device: Device, number: u8) -> &'static str {
+    match (device, number) {
+        (Device::Upd77c25, 4) => "the word at PC is 2^24 or more",
+        (Device::Upd77c25, 5) => "the jump code is none of the 36 that are listed",
+        (Device::Upd77c25, 6 | 7) => "no such number on this chip",
+        (_, number) => meaning_on_the_77p20(number),
+    }
+}
+
+fn meaning_on_the_77p20(number: u8) -> &'static str {
     match number {
         0 => "done",
         1 => "a lent image or RAM has the wrong length",
@@ -70,16 +81,17 @@ pub fn meaning(number: u8) -> &'static str {
 }
 
 /// A refusal's number with its meaning.
-pub fn refusal(number: u8) -> String {
-    format!("refusal {number}, {}", meaning(number))
+pub fn refusal(device: Device, number: u8) -> String {
+    format!("refusal {number}, {}", meaning(device, number))
 }
 
 /// What is said of an interrupt that did nothing.
 pub const IGNORED: &str = "ignored: EI is 0";
 
-/// An event and what it was answered.
+/// An event and what a chip answered.
 #[derive(Clone, Copy, Debug)]
 pub struct Answered {
+    pub device: Device,
     pub event: Event,
     pub reply: Reply,
 }
@@ -91,6 +103,11 @@ impl Answered {
             kind::HOST_READS | kind::HOST_READS_STATUS => format!("{value:02X}H"),
             _ => format!("{value:04X}H"),
         }
+    }
+
+    /// What the reply's number means.
+    pub fn meaning(&self) -> &'static str {
+        meaning(self.device, self.reply.number)
     }
 
     /// Whether the reply of this kind of event has a value.
@@ -113,7 +130,7 @@ impl Answered {
 impl fmt::Display for Answered {
     fn fmt(&self, f: &mut fmt::Formatter) -> fmt::Result {
         let Reply { number, words, value } = self.reply;
-        write!(f, "{}: {number} {}", self.event, meaning(number))?;
+        write!(f, "{}: {number} {}", self.event, self.meaning())?;
         if self.has_words() {
             write!(f, ", {}", counted(u32::from(words)))?;
         }
@@ -142,7 +159,8 @@ mod tests {
     #[test]
     fn what_is_given_and_found_is_printed_as_the_manual_writes_it() {
         let line = |kind, value, number, words, answer| {
-            Answered { event: Event { kind, value }, reply: Reply { number, words, value: answer } }.to_string()
+            let (event, reply) = (Event { kind, value }, Reply { number, words, value: answer });
+            Answered { device: Device::Upd77p20, event, reply }.to_string()
         };
         assert_eq!(line(0, 3, 0, 3, 0), "run 3: 0 done, 3 words");
         assert_eq!(line(0, 1, 0, 1, 0), "run 1: 0 done, 1 word");
@@ -158,6 +176,14 @@ mod tests {
         assert_eq!(line(6, 0, 9, 0, 0), "interrupt: 9 call, or interrupt taken, at depth 4, 0 words");
         assert_eq!(line(7, 4, 3, 0, 0), "event 7 4: 3 event kind over 7, or value not allowed");
         assert_eq!(line(9, 0, 3, 0, 0), "event 9 0: 3 event kind over 7, or value not allowed");
+    }
+
+    #[test]
+    fn what_a_number_means_is_the_chips_own() {
+        let differ: Vec<u8> =
+            (0..=u8::MAX).filter(|number| meaning(Device::Upd77p20, *number) != meaning(Device::Upd77c25, *number)).collect();
+        assert_eq!(differ, [4, 5, 6, 7]);
+        assert_eq!(refusal(Device::Upd77c25, 4), "refusal 4, the word at PC is 2^24 or more");
     }
 
     #[test]

@@ -1,5 +1,6 @@
-//! The chip on the bench: the proved core with what is lent to it, its registers, words and events by name, and its state in print.
+//! The chip on the bench, one of two: the proved core with what is lent to it, its registers, words and events by name, and its state in print.
 
+pub mod device;
 pub mod event;
 pub mod machine;
 pub mod mnemonics;
@@ -8,3 +9,5 @@ pub mod registers;
 pub mod serial;
 pub mod state;
 pub mod traced;
+pub mod word;
+pub mod wrong_chip;

@@ -1,15 +1,15 @@
 //! What events change of a machine, as a person reads it: registers, flags and RAM, with a `*` after whatever differs from the last
 //! time, or only what differs.
 
+use crate::chip::device::Device;
 use crate::chip::machine::Machine;
 use crate::chip::ram::{self, mark, Ram};
-use crate::chip::registers::{named, Register, REGISTERS};
+use crate::chip::registers::{self, named, Held, Register};
 use crate::numbers;
-use bemulatsho::Registers;
 
-/// The rows in which the registers are shown: numbers first, then A's flags, B's flags and the marks.
+/// The rows in which the registers are shown, as far as the chip has them: numbers first, then A's flags, B's flags and the marks.
 const NUMBERS: [&[&str]; 3] =
-    [&["PC", "STACK0", "STACK1", "STACK2", "STACK3", "DEPTH"], &["A", "B", "K", "L", "TR", "DR"], &["SI", "SO", "DP", "RP", "SR"]];
+    [&["PC", "STACK0", "STACK1", "STACK2", "STACK3", "DEPTH"], &["A", "B", "K", "L", "TR", "TRB", "DR"], &["SI", "SO", "DP", "RP", "SR"]];
 const FLAGS: [&[&str]; 3] =
     [&["SA1", "SA0", "CA", "ZA", "OVA1", "OVA0"], &["SB1", "SB0", "CB", "ZB", "OVB1", "OVB0"], &["SIACK", "SOACK", "SORQ"]];
 
@@ -30,22 +30,27 @@ const SR_BITS: [(&str, u32); 11] = [
 
 #[derive(Clone, Copy, Debug, PartialEq, Eq)]
 pub struct State {
-    pub registers: Registers,
+    pub device: Device,
+    pub held: Held,
     pub ram: Ram,
 }
 
 impl State {
     pub fn of(machine: &Machine) -> State {
-        State { registers: machine.registers, ram: machine.ram }
+        State { device: machine.device(), held: machine.held, ram: machine.ram }
+    }
+
+    fn cells(&self) -> &[u16] {
+        self.ram.of(self.device)
     }
 
     /// The registers and RAM cells that are not as they are here, with the values that they have later.
     pub fn changes(&self, later: &State) -> String {
-        let registers = REGISTERS.iter().filter_map(|register| {
-            let value = (register.get)(&later.registers);
-            (value != (register.get)(&self.registers)).then(|| format!("{} {}", register.name, register.print(value)))
+        let registers = registers::of(later.device).filter_map(|register| {
+            let value = (register.get)(&later.held);
+            (value != (register.get)(&self.held)).then(|| format!("{} {}", register.name, register.print(value)))
         });
-        let cells = self.ram.iter().zip(&later.ram).enumerate().filter(|(_, (before, after))| before != after);
+        let cells = self.cells().iter().zip(later.cells()).enumerate().filter(|(_, (before, after))| before != after);
         let cells = cells.map(|(cell, (_, after))| format!("RAM {cell:02X}H {}", numbers::register(*after)));
         registers.chain(cells).collect::<Vec<String>>().join("  ")
     }
@@ -56,22 +61,22 @@ pub fn show(now: &State, last: &State) -> String {
     let mut lines = Vec::new();
     lines.extend(NUMBERS.iter().map(|names| register_row(names, 13, now, last)));
     lines.extend(FLAGS.iter().map(|names| register_row(names, 0, now, last)));
-    lines.push(sr_bits(now.registers.sr));
+    lines.push(sr_bits(now.held.registers.sr));
     lines.push(ram::header());
-    let pointer = Some(usize::from(now.registers.dp));
-    lines.extend(ram::rows().map(|from| ram::row(from, &now.ram, &last.ram, pointer)));
+    let pointer = Some(usize::from(now.held.registers.dp));
+    lines.extend(ram::rows(now.cells()).map(|from| ram::row(from, now.cells(), last.cells(), pointer)));
     lines.iter().map(|line| format!("{}\n", line.trim_end())).collect()
 }
 
 fn register_row(names: &[&str], width: usize, now: &State, last: &State) -> String {
-    let registers = names.iter().filter_map(|name| named(name));
+    let registers = names.iter().filter_map(|name| named(now.device, name));
     registers.map(|register| format!("{:width$}", register_entry(register, now, last))).collect::<Vec<_>>().join("")
 }
 
 /// A name, its value and the mark, with a space at least to the next.
 fn register_entry(register: &Register, now: &State, last: &State) -> String {
-    let value = (register.get)(&now.registers);
-    let mark = mark(value != (register.get)(&last.registers));
+    let value = (register.get)(&now.held);
+    let mark = mark(value != (register.get)(&last.held));
     format!("{} {}{mark} ", register.name, register.print(value))
 }
 
@@ -86,8 +91,9 @@ fn sr_bits(sr: u16) -> String {
 #[cfg(test)]
 mod tests {
     use super::*;
-    fn empty() -> State {
-        State { registers: Registers::default(), ram: [0; bemulatsho::RAM] }
+
+    fn empty(device: Device) -> State {
+        State { device, held: Held::default(), ram: Ram::default() }
     }
 
     fn line(text: &str, start: &str) -> String {
@@ -97,7 +103,7 @@ mod tests {
     #[test]
     fn every_register_is_shown_once() {
         let mut shown: Vec<&str> = NUMBERS.iter().chain(&FLAGS).flat_map(|names| names.iter().copied()).collect();
-        let mut all: Vec<&str> = REGISTERS.iter().map(|register| register.name).collect();
+        let mut all: Vec<&str> = registers::of(Device::Upd77c25).map(|register| register.name).collect();
         shown.sort_unstable();
         all.sort_unstable();
         assert_eq!(shown, all);
@@ -105,66 +111,77 @@ mod tests {
 
     #[test]
     fn an_empty_machine_has_no_mark() {
-        let text = show(&empty(), &empty());
-        assert!(!text.contains('*'), "{text}");
-        assert_eq!(text.lines().count(), 3 + 3 + 1 + 1 + 8);
-        assert_eq!(line(&text, "PC"), "PC 000H      STACK0 000H  STACK1 000H  STACK2 000H  STACK3 000H  DEPTH 0H");
-        assert_eq!(line(&text, "SI "), "SI 0000H     SO 0000H     DP 00H       RP 000H      SR 0000H");
-        assert_eq!(line(&text, "SA1"), "SA1 0  SA0 0  CA 0  ZA 0  OVA1 0  OVA0 0");
-        assert_eq!(line(&text, "SIACK"), "SIACK 0  SOACK 0  SORQ 0");
-        assert_eq!(line(&text, "SR bits"), "SR bits: none");
-        assert_eq!(line(&text, "00H"), format!("00H[0000 ]{}", ["0000"; 15].join("  ")));
-        assert_eq!(line(&text, "70H"), format!("70H {}", ["0000"; 16].join("  ")));
+        for (device, ram_rows, with_tr, last) in [
+            (Device::Upd77p20, 8, "A 0000H      B 0000H      K 0000H      L 0000H      TR 0000H     DR 0000H", "70H"),
+            (Device::Upd77c25, 16, "A 0000H      B 0000H      K 0000H      L 0000H      TR 0000H     TRB 0000H    DR 0000H", "F0H"),
+        ] {
+            let text = show(&empty(device), &empty(device));
+            assert!(!text.contains('*'), "{text}");
+            assert_eq!(text.lines().count(), 3 + 3 + 1 + 1 + ram_rows);
+            assert_eq!(line(&text, "PC"), "PC 000H      STACK0 000H  STACK1 000H  STACK2 000H  STACK3 000H  DEPTH 0H");
+            assert_eq!(line(&text, "A "), with_tr);
+            assert_eq!(line(&text, "SI "), "SI 0000H     SO 0000H     DP 00H       RP 000H      SR 0000H");
+            assert_eq!(line(&text, "SA1"), "SA1 0  SA0 0  CA 0  ZA 0  OVA1 0  OVA0 0");
+            assert_eq!(line(&text, "SIACK"), "SIACK 0  SOACK 0  SORQ 0");
+            assert_eq!(line(&text, "SR bits"), "SR bits: none");
+            assert_eq!(line(&text, "00H"), format!("00H[0000 ]{}", ["0000"; 15].join("  ")));
+            assert_eq!(text.lines().last(), Some(format!("{last} {}", ["0000"; 16].join("  ")).as_str()));
+        }
     }
 
     #[test]
     fn what_changed_is_marked_wherever_it_stands() {
-        for register in &REGISTERS {
-            let mut now = empty();
-            (register.set)(&mut now.registers, 1);
-            let text = show(&now, &empty());
-            assert_eq!(text.matches('*').count(), 1, "{}\n{text}", register.name);
-            assert!(text.contains(&format!("{} {}*", register.name, register.print(1))), "{text}");
-            assert_eq!(show(&now, &now).matches('*').count(), 0);
-        }
-        for cell in 0..bemulatsho::RAM {
-            let mut now = empty();
-            now.ram[cell] = 0xabcd;
-            let text = show(&now, &empty());
-            assert_eq!(text.matches('*').count(), 1, "{text}");
-            let row = line(&text, &format!("{:X}0H", cell / 16));
-            assert_eq!(row.find("ABCD*"), Some(4 + 6 * (cell % 16)), "{row}");
+        for device in Device::ALL {
+            for register in registers::of(device) {
+                let mut now = empty(device);
+                (register.set)(&mut now.held, 1);
+                let text = show(&now, &empty(device));
+                assert_eq!(text.matches('*').count(), 1, "{}\n{text}", register.name);
+                assert!(text.contains(&format!("{} {}*", register.name, register.print(1))), "{text}");
+                assert_eq!(show(&now, &now).matches('*').count(), 0);
+            }
+            for cell in 0..device.ram() {
+                let mut now = empty(device);
+                now.ram.of_mut(device)[cell] = 0xabcd;
+                let text = show(&now, &empty(device));
+                assert_eq!(text.matches('*').count(), 1, "{text}");
+                let row = line(&text, &format!("{:X}0H", cell / 16));
+                assert_eq!(row.find("ABCD*"), Some(4 + 6 * (cell % 16)), "{row}");
+            }
         }
     }
 
     #[test]
     fn a_cell_back_at_zero_is_marked_too() {
-        let mut last = empty();
-        last.ram[0x25] = 5;
-        let row = line(&show(&empty(), &last), "20H");
+        let device = Device::Upd77p20;
+        let mut last = empty(device);
+        last.ram.of_mut(device)[0x25] = 5;
+        let row = line(&show(&empty(device), &last), "20H");
         assert_eq!(row.find('*'), Some(4 + 6 * 5 + 4), "{row}");
     }
 
     #[test]
     fn brackets_stand_around_the_cell_of_dp() {
-        for cell in 0..bemulatsho::RAM {
-            let mut now = empty();
-            now.registers.dp = cell as u16;
-            now.ram[cell] = 0x1234;
+        for (device, cell) in Device::ALL.into_iter().flat_map(|device| (0..device.ram()).map(move |cell| (device, cell))) {
+            let mut now = empty(device);
+            now.held.registers.dp = cell as u16;
+            now.ram.of_mut(device)[cell] = 0x1234;
             let text = show(&now, &now);
             assert_eq!((text.matches('[').count(), text.matches(']').count()), (1, 1), "{text}");
             assert!(text.contains("[1234 ]"), "{text}");
-            assert!(show(&now, &empty()).contains("[1234*]"));
+            assert!(show(&now, &empty(device)).contains("[1234*]"));
         }
     }
 
     #[test]
     fn a_pointer_outside_the_ram_marks_no_cell() {
-        let mut now = empty();
-        now.registers.dp = u16::MAX;
-        let text = show(&now, &now);
-        assert!(!text.contains(['[', ']']), "{text}");
-        assert!(text.contains("DP FFFFH"), "{text}");
+        for (device, outside) in [(Device::Upd77p20, 0x80), (Device::Upd77p20, u16::MAX), (Device::Upd77c25, 0x100)] {
+            let mut now = empty(device);
+            now.held.registers.dp = outside;
+            let text = show(&now, &now);
+            assert!(!text.contains(['[', ']']), "{text}");
+            assert!(text.contains(&format!("DP {outside:X}H")), "{text}");
+        }
     }
 
     #[test]

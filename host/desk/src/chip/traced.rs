@@ -1,5 +1,6 @@
 //! The lines of a trace: a word with its address and mnemonics, or an event, and what it changed.
 
+use crate::chip::device::Device;
 use crate::chip::event::{meaning, Answered, Event, IGNORED};
 use crate::chip::machine::Machine;
 use crate::chip::mnemonics;
@@ -19,8 +20,9 @@ pub fn run_word(machine: &mut Machine) -> TracedWord {
     let mut before = State::of(machine);
     let spelled = Spelled::at_pc(machine);
     let reply = machine.event(kind::RUN, 1);
-    before.registers.pc = before.registers.pc.wrapping_add(1) % bemulatsho::WORDS as u16;
-    let changes = if reply.number == 0 { before.changes(&State::of(machine)) } else { refused(reply) };
+    let pc = &mut before.held.registers.pc;
+    *pc = pc.wrapping_add(1) % machine.device().words() as u16;
+    let changes = if reply.number == 0 { before.changes(&State::of(machine)) } else { refused(machine.device(), reply) };
     TracedWord { reply, spelled, changes }
 }
 
@@ -32,17 +34,17 @@ pub struct TracedEvent {
 
 pub fn give_event(machine: &mut Machine, event: Event) -> TracedEvent {
     let before = State::of(machine);
-    let answered = Answered { event, reply: machine.event(event.kind, event.value) };
+    let answered = Answered { device: machine.device(), event, reply: machine.event(event.kind, event.value) };
     let changes = match answered.reply.number {
         0 if answered.is_ignored() => IGNORED.to_string(),
         0 => before.changes(&State::of(machine)),
-        _ => refused(answered.reply),
+        _ => refused(answered.device, answered.reply),
     };
     TracedEvent { answered, changes }
 }
 
-fn refused(reply: Reply) -> String {
-    format!("refused {}: {}", reply.number, meaning(reply.number))
+fn refused(device: Device, reply: Reply) -> String {
+    format!("refused {}: {}", reply.number, meaning(device, reply.number))
 }
 
 /// The address, the word that stands there and its mnemonics.
@@ -54,10 +56,9 @@ struct Spelled {
 
 impl Spelled {
     fn at_pc(machine: &Machine) -> Spelled {
-        let pc = machine.registers.pc;
-        let address = numbers::address(pc);
-        match machine.program.get(usize::from(pc)) {
-            Some(word) => Spelled { address, word: numbers::word(*word), mnemonics: mnemonics::line(*word) },
+        let address = numbers::address(machine.pc());
+        match machine.program.get(usize::from(machine.pc())) {
+            Some(word) => Spelled { address, word: numbers::word(*word), mnemonics: mnemonics::line(machine.device(), *word) },
             None => Spelled { address, word: "no word".to_string(), mnemonics: String::new() },
         }
     }
@@ -81,8 +82,9 @@ impl Columns {
     }
 
     /// As wide as the words of a program need.
-    pub fn of_program(words: &[u32]) -> Columns {
-        Columns::wide_enough(words.iter().map(|word| mnemonics::line(*word).len()).max().unwrap_or(0))
+    pub fn of_program(machine: &Machine) -> Columns {
+        let lengths = machine.program.iter().map(|word| mnemonics::line(machine.device(), *word).len());
+        Columns::wide_enough(lengths.max().unwrap_or(0))
     }
 
     /// The line of a word; `number` counts the words that finished, without the two that an interrupt takes: they have no line.

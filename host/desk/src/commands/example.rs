@@ -102,7 +102,7 @@ fn read(file: &Path) -> Result<Sound, Fault> {
 fn read_back(order: &Order) -> Result<(Vec<Sound>, Vec<i16>, Sound), Fault> {
     let sources = order.sources.iter().map(|file| read(file)).collect::<Result<Vec<Sound>, Fault>>()?;
     let preset = prepared(&order.images, Reader::of_files(&order.scripts), &mut Vec::new())?.machine;
-    let gains = preset.ram.iter().take(sources.len()).map(|gain| *gain as i16).collect();
+    let gains = preset.cells().iter().take(sources.len()).map(|gain| *gain as i16).collect();
     Ok((sources, gains, read(&order.track)?))
 }
 

@@ -5,7 +5,7 @@ use crate::output::Output;
 use crate::scripts::nearest::nearest;
 
 const OVERVIEW: &str = "\
-desk: the uPD7720A / 77P20 in software, for the bench
+desk: the uPD7720A / 77P20 and the uPD77C25 in software, for the bench
 
   desk run SCRIPT             play a script and check what it expects
   desk trace SCRIPT           print each word as it finishes, and what changed
@@ -34,6 +34,9 @@ with its meaning, the words done (of a run, and 2 of an interrupt that is accept
 expectation that does not hold ends the run with status 1, and so does an event that is refused where no `reply`
 behind it expects that. A record is a script too, in text or in the compact form.
 
+A script is for the 77P20 unless it says `chip 77C25`: the larger chip has 2048 words of 24 bits, 1024 data ROM cells
+of 16, 256 RAM cells and the register TRB. Images in Intel HEX and presets are of the 77P20.
+
   --quiet          print failures only
   --json           print one object a reply
   --program FILE   the program, an image in Intel HEX, given before the script's own statements
@@ -46,6 +49,7 @@ An image has record types 00 and 01, every address once, low bytes first (word n
 Statements, one a line, in small letters or capitals; # begins a comment; 1234H is hexadecimal, 1234 decimal;
 a name with spaces stands in \"quotes\":
 
+  chip 77P20 | 77C25                the chip, once and before all that depends on it
   program ADDRESS: WORD ..          instruction words from an address on; each address is given once
   program FILE                      all of them: an image in Intel HEX, beside this script
   rom ADDRESS: CELL ..              data ROM cells
@@ -55,7 +59,7 @@ a name with spaces stands in \"quotes\":
   patch program | rom | ram | preset ..
                                     the same, over what was given before
   set REGISTER VALUE                PC STACK0 .. STACK3 DEPTH A B K L TR DR SI SO DP RP SR SIACK SOACK SORQ,
-                                    and the flags SA1 SA0 CA ZA OVA1 OVA0 SB1 SB0 CB ZB OVB1 OVB0
+                                    TRB of the 77C25, and the flags SA1 SA0 CA ZA OVA1 OVA0 SB1 SB0 CB ZB OVB1 OVB0
   run WORDS | in WORD | out | read | write BYTE | status | interrupt | reset
   event KIND VALUE                  an event by its number, 0 to 7
   reply NUMBER [words N] [value V]  what the event before was to be answered
@@ -76,7 +80,8 @@ const TRACE: &str = "\
 desk trace [--from N] [--count N] [--program FILE] [--data FILE] [--preset FILE] SCRIPT
 
 Plays and judges a script as `desk run` does, word by word, and prints each word as it finishes: its address,
-the word, its fields in the manual's mnemonics, and only what changed. This is how a wrong channel map is found.
+the word, its fields in the mnemonics of the script's chip, and only what changed. This is how a wrong channel map is
+found.
 The two words that an interrupt takes stand in its reply; they have no line and no number.
 
   --from N         print nothing of the first N words
@@ -97,7 +102,8 @@ desk check-track --program FILE.. [--data FILE] [--preset FILE] --in WAV.. --sen
 desk check-track --tracks LIST
 
 Gives the proved core what the desk was given and holds every word that the desk sent against what the chip
-would have sent. A record has the events; with sound files the sources go through the program as in `desk mix`.
+would have sent. A record has the events; with sound files the sources go through the program as in `desk mix`. A
+track of the 77C25 is told: `chip 77C25` stands in its record, or in the scripts of its program.
 A file of the program is a script, or an image in Intel HEX, which begins with a colon; `data` is the image of the
 data ROM, `preset` that of the RAM. A list has a line a track, paths relative to it:
 
@@ -135,7 +141,8 @@ const CHECK_IMAGE: &str = "\
 desk check-image FILE..
 
 Says which words of a program, an image in Intel HEX, the machine would refuse wherever it came to them: those of a
-worn EPROM are found on the bench, before they play.
+worn EPROM are found on the bench, before they play. Such images are of the 77P20; a program of the 77C25 stands in
+a script.
 
   4    the word is 2^23 or more: a bit above D22 is set
   5    BRCH, D20-18 of a jump, is none of 010, 100, 101
@@ -157,10 +164,10 @@ const MIX: &str = "\
 desk mix [--program FILE] [--data FILE] [--preset FILE] SCRIPT.. --in WAV.. --out WAV [--record FILE]
 
 Runs one sample of each source through the serial port for every sample of the track: each goes in, the program
-runs until it has taken it, and after the last until it sends. The scripts bring the program, the data and the
-preset; events in them are played once, at the start. One to sixteen sound files, 16-bit mono PCM WAV, all at
-one rate; the shorter ones end in silence. The track is written whole or not at all, and never over a file that
-is read. A sound of `-` is standard input or output.
+runs until it has taken it, and after the last until it sends. The scripts say the chip and bring the program, the
+data and the preset; events in them are played once, at the start. One to sixteen sound files, 16-bit mono PCM
+WAV, all at one rate; the shorter ones end in silence. The track is written whole or not at all, and never over a
+file that is read. A sound of `-` is standard input or output.
 
   --program FILE   the program, an image in Intel HEX, given before the scripts; with it no script is needed
   --data FILE      the data ROM, an image in Intel HEX
@@ -177,8 +184,8 @@ desk preset check FILE..
 desk preset show FILE
 desk preset diff A B
 
-A preset is the 128 cells of the RAM as an image in Intel HEX: 256 bytes from address 0 on, low byte first. It is
-loaded whole or refused: half a preset is refusal 15, and the RAM keeps every cell. A script names one by
+A preset is the 128 cells of the 77P20's RAM as an image in Intel HEX: 256 bytes from address 0 on, low byte first.
+It is loaded whole or refused: half a preset is refusal 15, and the RAM keeps every cell. A script names one by
 `preset FILE`, over what was given before by `patch preset FILE`; `--preset FILE` gives one to a command.
 
   write   plays a script as `desk run --quiet` does, and writes the RAM that it leaves: sixteen records of

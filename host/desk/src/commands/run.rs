@@ -1,6 +1,6 @@
 //! `desk run`: plays a script on one machine, prints each reply and holds every expectation against what is found.
 
-use crate::chip::event::{meaning, Answered};
+use crate::chip::event::Answered;
 use crate::chip::state::{show, State};
 use crate::commands::arguments::{Argument, Arguments};
 use crate::commands::script::{self, Statements};
@@ -70,10 +70,14 @@ fn play(statements: Statements, print: Print, output: &mut Output) -> Result<(),
                 Print::Nothing => {}
             }
         }
-        if statement.action == Action::Show && print == Print::Lines {
-            let now = State::of(&player.machine);
-            output.print(&show(&now, &shown))?;
-            shown = now;
+        match statement.action {
+            Action::Chip { .. } => shown = State::of(&player.machine),
+            Action::Show if print == Print::Lines => {
+                let now = State::of(&player.machine);
+                output.print(&show(&now, &shown))?;
+                shown = now;
+            }
+            _ => {}
         }
     }
     player.settle()
@@ -93,7 +97,7 @@ fn json(answered: &Answered, place: Place) -> String {
         quoted(&answered.event.name().map_or_else(|| format!("event {}", answered.event.kind), str::to_string)),
         answered.event.kind,
         answered.event.value,
-        quoted(meaning(number)),
+        quoted(answered.meaning()),
     )
 }
 

@@ -1,5 +1,6 @@
 //! `desk trace`: plays a script word by word, prints what each word and each event changed, and judges as `desk run` does.
 
+use crate::chip::device::Device;
 use crate::chip::event::{Answered, Event};
 use crate::chip::machine::Memory;
 use crate::chip::mnemonics;
@@ -20,11 +21,13 @@ const WORDS: &str = "a number of words";
 
 pub fn command(arguments: &[String]) -> Result<(), Fault> {
     let asked = asked(arguments)?;
-    let mut widest = 0;
-    let script = script::checked(asked.script, &asked.images, |statement| {
-        if let Action::Fill(Fill { memory: Memory::Program, values, .. }) = &statement.action {
-            widest = values.iter().map(|word| mnemonics::line(*word).len()).fold(widest, usize::max);
+    let (mut chip, mut widest) = (Device::default(), 0);
+    let script = script::checked(asked.script, &asked.images, |statement| match &statement.action {
+        Action::Chip { device } => chip = *device,
+        Action::Fill(Fill { memory: Memory::Program, values, .. }) => {
+            widest = values.iter().map(|word| mnemonics::line(chip, *word).len()).fold(widest, usize::max);
         }
+        _ => {}
     })?;
     let mut output = Output::new();
     let played = Trace::new(&asked, Columns::wide_enough(widest), &mut output).play(script.statements);
@@ -101,7 +104,7 @@ impl<'a> Trace<'a> {
             self.words += u64::from(part.words);
             reply = Reply { words: reply.words + part.words, ..part };
         }
-        self.player.answered(place, Answered { event, reply });
+        self.player.answered(place, Answered { device: self.player.machine.device(), event, reply });
         Ok(())
     }
 

@@ -1,12 +1,16 @@
-//! Words of a program that are refused whatever the machine holds: 4, 5 and 18. The number is the proved core's; the word is looked at
+//! Words of the 77P20's program that are refused whatever the machine holds: 4, 5 and 18. The number is the proved core's; the word is looked at
 //! again only to say which bits are at fault.
 
+use crate::chip::device::Device;
 use crate::chip::event::refusal;
 use crate::chip::mnemonics::{self, CALL, JUMP, JUMP_ON_CONDITION};
 use crate::fault::Fault;
 use crate::numbers;
 use bemulatsho::{event, fresh_registers, kind, take_apart, Word};
 use std::fmt;
+
+/// The chip whose images there are.
+const CHIP: Device = Device::Upd77p20;
 
 /// The places of a word's bits: all above D22, and the fields that a word may have to leave 0.
 const TOO_WIDE: u32 = 0xff80_0000;
@@ -31,7 +35,7 @@ pub fn words(program: &[u32]) -> Result<Vec<Faulty>, Fault> {
         match event(&mut registers, program, &rom, &mut ram, kind::RUN, 1).number {
             0 | 6..=9 => {}
             number @ (4 | 5 | 18) => faulty.push(Faulty { address, word: *word, number }),
-            number => return Err(Fault::bad(format!("word {} was not looked at: {}", numbers::address(address), refusal(number)))),
+            number => return Err(Fault::bad(format!("word {} was not looked at: {}", numbers::address(address), refusal(CHIP, number)))),
         }
     }
     Ok(faulty)
@@ -41,7 +45,7 @@ pub fn words(program: &[u32]) -> Result<Vec<Faulty>, Fault> {
 impl fmt::Display for Faulty {
     fn fmt(&self, f: &mut fmt::Formatter) -> fmt::Result {
         let Faulty { address, word, number } = *self;
-        write!(f, "{}  {}  {}  {}", numbers::address(address), numbers::word(word), mnemonics::line(word), refusal(number))?;
+        write!(f, "{}  {}  {}  {}", numbers::address(address), numbers::word(word), mnemonics::line(CHIP, word), refusal(CHIP, number))?;
         bits_at_fault(word).map_or(Ok(()), |bits| write!(f, ": {bits}"))
     }
 }

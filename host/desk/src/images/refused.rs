@@ -4,6 +4,7 @@ mod record;
 mod text;
 
 use super::Image;
+use crate::chip::device::Device;
 use crate::chip::event::refusal;
 use crate::fault::{self, Fault, Place, Spot};
 use bemulatsho::Loading;
@@ -34,7 +35,7 @@ pub fn fault(image: Image, file: &Path, text: &[u8], Loading { number, line }: L
         (Some(_), None) => Spot::WholeLine(line as u64),
         (Some(_), Some(column)) => Spot::Line { line: line as u64, column },
     };
-    let parts = [Some(refusal(number)), reason.map(|reason| reason.why), decided.map(shown)];
+    let parts = [Some(refusal(Device::Upd77p20, number)), reason.map(|reason| reason.why), decided.map(shown)];
     Fault::bad_at(Place { file: fault::named(file), spot }, parts.into_iter().flatten().collect::<Vec<String>>().join(": "))
 }
 

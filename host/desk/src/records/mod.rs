@@ -72,7 +72,7 @@ impl Record {
         Ok(Record { file: None, statements })
     }
 
-    /// Sees what was given before the record's first statement.
+    /// Sees the images that were given before the record's first statement.
     pub fn given(&mut self, before: &[Statement]) -> Result<(), Fault> {
         match &mut self.statements {
             Statements::Text { reader, .. } => reader.given(before),

@@ -2,7 +2,7 @@
 
 use crate::fault::{Fault, Place};
 use crate::scripts::seen::Seen;
-use crate::scripts::statement::Action;
+use crate::scripts::statement::{Action, Statement};
 
 #[derive(Default)]
 pub struct Order {
@@ -15,6 +15,11 @@ impl Order {
     #[inline]
     pub fn ended(&self) -> bool {
         self.ended
+    }
+
+    /// Sees an image that was given before the first statement.
+    pub fn see_image(&mut self, image: &Statement) -> Result<(), Fault> {
+        self.seen.see_image(image)
     }
 
     /// Sees the next statement.

@@ -4,6 +4,7 @@
 
 use super::cursor::{put_number, Cursor, Wrong};
 use super::layout::{LONGEST_LINE, MOST_STATEMENTS};
+use crate::chip::device::Device;
 use crate::chip::event::Event;
 use crate::scripts::parse;
 use crate::scripts::statement::Action;
@@ -51,13 +52,14 @@ pub fn put_line(action: &Action, pattern: &mut Vec<u8>) -> Result<(), Wrong> {
     Ok(())
 }
 
+/// Patterns do not stand in the order of their statements: whether one fits the chip that was said is seen when it is handed out.
 fn line_read(line: &str) -> Result<Action, Wrong> {
     if line.len() > LONGEST_LINE || line.contains('\n') {
         return Err(format!("a statement of {} bytes: expected one line of at most {LONGEST_LINE}", line.len()));
     }
     let mut words = Words::new(Path::new(""), 1, line).map_err(|fault| fault.message)?;
     let first = words.next().ok_or("an empty line: expected a statement")?;
-    parse::statement(&first, &mut words).map_err(|fault| fault.message)
+    parse::statement(Device::Upd77c25, &first, &mut words).map_err(|fault| fault.message)
 }
 
 /// A statement of a pattern, ready to be filled.

@@ -56,9 +56,9 @@ impl<R: Read> Reader<R> {
         Reader { input, file, crc: Crc::new(), bytes: 0, turns, order, statements: 0, sent: 0, state: State::New }
     }
 
-    /// Sees what was given before the record's first statement.
+    /// Sees the images that were given before the record's first statement.
     pub fn given(&mut self, before: &[Statement]) -> Result<(), Fault> {
-        before.iter().try_for_each(|statement| self.order.see(&statement.action, statement.place))
+        before.iter().try_for_each(|image| self.order.see_image(image))
     }
 
     /// How many bytes were read so far.

@@ -4,9 +4,10 @@ use super::compact::{Reader, Stop, Writer};
 use super::crc::Crc;
 use super::layout::{BLOCK_HEAD, CHECK, HEADER, LONGEST_LINE, MAGIC};
 use super::{form, open, Form, Record};
+use crate::chip::device::Device;
 use crate::chip::event::Event;
 use crate::chip::machine::Memory;
-use crate::chip::registers::REGISTERS;
+use crate::chip::registers::{self, Register};
 use crate::fault::Spot;
 use crate::scripts::reader::read_text;
 use crate::scripts::statement::{Action, Fill};
@@ -122,20 +123,20 @@ fn every_statement_comes_back() {
     assert_eq!(read(&written(&[], 1)), (vec![], Ok(())));
 }
 
-fn random_action(random: &mut Random) -> Action {
-    let register = &REGISTERS[random.place(REGISTERS.len())];
+fn random_action(random: &mut Random, device: Device) -> Action {
+    let register = random.pick(&registers::of(device).collect::<Vec<&Register>>());
     let value = random.word() & register.largest;
     match random.below(40) {
         0 => {
             let memory = random.pick(&Memory::ALL);
-            let from = random.place(memory.length());
-            let length = 1 + random.place((memory.length() - from).min(20));
+            let from = random.place(memory.length(device));
+            let length = 1 + random.place((memory.length(device) - from).min(20));
             let values = (0..length).map(|_| number(random).min(memory.largest())).collect();
             Action::Fill(Fill { memory, from, values, patch: true })
         }
         1 => Action::Set { register, value },
         2 => Action::Expect { register, value },
-        3 => Action::ExpectRam { cell: random.place(128), value: random.word() },
+        3 => Action::ExpectRam { cell: random.place(device.ram()), value: random.word() },
         4 => Action::Show,
         5 => Action::Rate { hertz: 1 + number(random) / 2 },
         6 => Action::Sources { names: (0..=random.below(3)).map(|_| "name of # one".chars().take(random.place(14)).collect()).collect() },
@@ -155,7 +156,9 @@ fn random_statements_come_back() {
     for seed in 0..60 {
         let mut random = Random::new(seed);
         let length = random.below(3000);
-        let mut actions: Vec<Action> = (0..length).map(|_| random_action(&mut random)).collect();
+        let device = random.pick(&Device::ALL);
+        let chip = (device != Device::default()).then_some(Action::Chip { device });
+        let mut actions: Vec<Action> = chip.into_iter().chain((0..length).map(|_| random_action(&mut random, device))).collect();
         if random.flag() {
             actions.push(Action::Samples { count: random.next() });
         }
@@ -589,4 +592,42 @@ fn the_example_of_the_description_is_right() {
     let actions: Vec<Action> = read_text(Path::new("x"), text.as_bytes()).unwrap().into_iter().map(|statement| statement.action).collect();
     assert_eq!(written(&actions, 1 << 16), bytes);
     assert_eq!(read(&bytes), (actions, Ok(())));
+}
+
+/// A record of these lines, each a turn of its own, with checks that hold: no writer is asked.
+fn of_lines(lines: &[&str]) -> Vec<u8> {
+    let mut payload = vec![lines.len() as u8];
+    for line in lines {
+        payload.extend([1, 10, line.len() as u8]);
+        payload.extend(line.as_bytes());
+    }
+    payload.push(lines.len() as u8);
+    super::index::pack(0..lines.len() as u32, lines.len(), &mut payload);
+    signed(&[(b'T', payload)])
+}
+
+#[test]
+fn what_the_chip_does_not_have_is_refused_where_it_stands() {
+    for (line, told) in [
+        ("program 200H: 000000H", "program 200H: expected an address below 200H on the 77P20"),
+        ("patch rom 1FFH: 0000H 0000H", "rom 200H: expected an address below 200H on the 77P20"),
+        ("ram 080H: 0000H", "ram 080H: expected an address below 80H on the 77P20"),
+        ("expect ram FFH 0000H", "ram 0FFH: expected an address below 80H on the 77P20"),
+        ("set TRB 0001H", "TRB: expected a register of the 77P20"),
+        ("expect TRB 0001H", "TRB: expected a register of the 77P20"),
+    ] {
+        assert_eq!(message(&of_lines(&["show", line])), format!("x: statement 2: {told}"));
+        assert_eq!(message(&of_lines(&["chip 77P20", line])), format!("x: statement 2: {told}"));
+        // There the end is missing, and nothing else.
+        let (actions, end) = read(&of_lines(&["chip 77C25", line]));
+        assert!(actions.len() == 2 && matches!(end, Err(Stop::Cut(_))), "{line}: {end:?}");
+    }
+    assert_eq!(
+        message(&of_lines(&["show", "chip 77C25"])),
+        "x: statement 2: `chip 77C25`: expected before all that depends on it; a `show` stands at x: statement 1"
+    );
+    assert_eq!(
+        message(&of_lines(&["chip 77C25", "chip 77C25"])),
+        "x: statement 2: `chip 77C25`: expected once; `chip 77C25` stands at x: statement 1"
+    );
 }

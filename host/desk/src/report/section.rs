@@ -54,7 +54,7 @@ fn facts(findings: &Findings, start: Start) -> String {
     if let Some(first) = &findings.first {
         let chip = match first.chip {
             Chip::Sends(word) => format!("the chip sends {}", value(word)),
-            Chip::Refuses(number) => format!("the chip sends nothing ({})", refusal(number)),
+            Chip::Refuses(number) => format!("the chip sends nothing ({})", refusal(findings.device, number)),
         };
         facts.push((
             "First difference",

@@ -1,8 +1,9 @@
-//! One statement from the words of its line.
+//! One statement from the words of its line, for a chip.
 
+use crate::chip::device::Device;
 use crate::chip::event::Event;
 use crate::chip::machine::Memory;
-use crate::chip::registers::{named, Register, REGISTERS};
+use crate::chip::registers::{self, named, Register};
 use crate::fault::Fault;
 use crate::images::Image;
 use crate::numbers;
@@ -64,31 +65,32 @@ fn is_address(token: &Token) -> bool {
 }
 
 /// The statement that begins with this word; its line ends behind it.
-pub fn statement(first: &Token, words: &mut Words) -> Result<Action, Fault> {
-    let action = action(first, words)?;
+pub fn statement(device: Device, first: &Token, words: &mut Words) -> Result<Action, Fault> {
+    let action = action(device, first, words)?;
     words.end()?;
     Ok(action)
 }
 
-fn action(first: &Token, words: &mut Words) -> Result<Action, Fault> {
+fn action(device: Device, first: &Token, words: &mut Words) -> Result<Action, Fault> {
     if let Some(memory) = memory(first) {
-        return fill(memory, false, words);
+        return fill(device, memory, false, words);
     }
     if let (Some((kind, has_value)), false) = (Event::named(&first.text), first.quoted) {
         let value = if has_value { words.number("a value")? } else { 0 };
         return Ok(Action::Event(Event { kind, value }));
     }
     match first {
+        _ if first.is("chip") => chip(words),
         _ if first.is("patch") => {
             let name = words.expect(PATCHED)?;
             let memory = memory(&name).ok_or_else(|| name.wrong(PATCHED))?;
-            fill(memory, true, words)
+            fill(device, memory, true, words)
         }
-        _ if first.is("set") => register_and_value(words).map(|(register, value)| Action::Set { register, value }),
+        _ if first.is("set") => register_and_value(device, words).map(|(register, value)| Action::Set { register, value }),
         _ if first.is("event") => Ok(Action::Event(Event { kind: words.number("the kind of an event")?, value: words.number("a value")? })),
         _ if first.is("reply") => reply(words),
         _ if first.is("sent") => Ok(Action::Sent { word: words.up_to(0xffff, "the word that was sent")? as u16 }),
-        _ if first.is("expect") => expect(words),
+        _ if first.is("expect") => expect(device, words),
         _ if first.is("show") => Ok(Action::Show),
         _ if first.is("rate") => rate(words),
         _ if first.is("sources") => sources(words),
@@ -109,20 +111,36 @@ fn memory(token: &Token) -> Option<Memory> {
     Memory::ALL.into_iter().find(|memory| token.is(memory.name()))
 }
 
-fn fill(memory: Memory, patch: bool, words: &mut Words) -> Result<Action, Fault> {
+fn chip(words: &mut Words) -> Result<Action, Fault> {
+    let name = words.expect("the name of a chip, 77P20 or 77C25")?;
+    let device = Device::named(&name.text).filter(|_| !name.quoted);
+    device.map(|device| Action::Chip { device }).ok_or_else(|| name.wrong(&chip_meant(&name.text)))
+}
+
+fn chip_meant(text: &str) -> String {
+    match nearest(text, Device::ALL.map(Device::name)) {
+        Some(name) => format!("the name of a chip, perhaps {name:?}"),
+        None => format!("the name of a chip: {}", Device::ALL.map(Device::name).join(", ")),
+    }
+}
+
+fn fill(device: Device, memory: Memory, patch: bool, words: &mut Words) -> Result<Action, Fault> {
+    let length = memory.length(device);
     let expected = if memory == Memory::Program && !patch { ADDRESS_OR_FILE } else { ADDRESS };
     let address = words.expect(expected)?;
     let digits = address.text.strip_suffix(':').ok_or_else(|| address.wrong(expected))?;
     let from = numbers::parse(digits).ok_or_else(|| address.wrong(expected))? as usize;
-    if from >= memory.length() {
-        return Err(address.wrong(&format!("an address below {:X}H", memory.length())));
+    if from >= length {
+        let larger = on_the_larger_chip(device, memory, from, |length| format!("{length:X}H"));
+        return Err(address.wrong(&format!("an address below {length:X}H{larger}")));
     }
     let mut values = Vec::new();
     for token in words.by_ref() {
         let value = numbers::parse(&token.text).filter(|value| *value <= memory.largest());
         let value = value.ok_or_else(|| token.wrong(&format!("a number up to {:X}H ({})", memory.largest(), numbers::WRITTEN)))?;
-        if from + values.len() >= memory.length() {
-            return Err(token.wrong(&format!("nothing: {} has {} places", memory.name(), memory.length())));
+        if from + values.len() >= length {
+            let larger = on_the_larger_chip(device, memory, length, |length| length.to_string());
+            return Err(token.wrong(&format!("nothing: {} has {length} places{larger}", memory.name())));
         }
         values.push(value);
     }
@@ -132,15 +150,27 @@ fn fill(memory: Memory, patch: bool, words: &mut Words) -> Result<Action, Fault>
     Ok(Action::Fill(Fill { memory, from, values, patch }))
 }
 
-fn register_and_value(words: &mut Words) -> Result<(&'static Register, u16), Fault> {
+/// What is said of a place that the 77P20 has not and the 77C25 has.
+fn on_the_larger_chip(device: Device, memory: Memory, place: usize, print: impl Fn(usize) -> String) -> String {
+    let larger = Device::Upd77c25;
+    match device != larger && place < memory.length(larger) {
+        true => format!("; the {larger} has {}, behind `chip {larger}`", print(memory.length(larger))),
+        false => String::new(),
+    }
+}
+
+fn register_and_value(device: Device, words: &mut Words) -> Result<(&'static Register, u16), Fault> {
     let name = words.expect("the name of a register")?;
-    let register = named(&name.text).ok_or_else(|| name.wrong(&register_meant(&name.text)))?;
+    let register = named(device, &name.text).ok_or_else(|| name.wrong(&register_meant(device, &name.text)))?;
     let value = words.up_to(u32::from(register.largest), "a value")?;
     Ok((register, value as u16))
 }
 
-fn register_meant(text: &str) -> String {
-    let names = || REGISTERS.iter().map(|register| register.name);
+fn register_meant(device: Device, text: &str) -> String {
+    let names = || registers::of(device).map(|register| register.name);
+    if let Some(other) = Device::ALL.into_iter().find(|other| named(*other, text).is_some()) {
+        return format!("a register of the {device}; it is one of the {other}, behind `chip {other}`");
+    }
     match nearest(text, names()) {
         Some(name) => format!("the name of a register, perhaps {name:?}"),
         None => format!("the name of a register: {}", names().collect::<Vec<&str>>().join(", ")),
@@ -161,13 +191,13 @@ fn reply(words: &mut Words) -> Result<Action, Fault> {
     Ok(Action::Reply { number, words: done, value })
 }
 
-fn expect(words: &mut Words) -> Result<Action, Fault> {
+fn expect(device: Device, words: &mut Words) -> Result<Action, Fault> {
     if words.peek().is_some_and(|token| token.is("ram")) {
         words.next();
-        let cell = words.up_to(bemulatsho::RAM as u32 - 1, "a RAM address")? as usize;
+        let cell = words.up_to(device.ram() as u32 - 1, "a RAM address")? as usize;
         return Ok(Action::ExpectRam { cell, value: words.up_to(0xffff, "a value")? as u16 });
     }
-    let (register, value) = register_and_value(words)?;
+    let (register, value) = register_and_value(device, words)?;
     Ok(Action::Expect { register, value })
 }
 

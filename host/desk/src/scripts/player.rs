@@ -1,8 +1,10 @@
 //! Carries out statements on one machine and judges what they expect.
 
-use crate::chip::event::{counted, meaning, Answered, Event};
+use crate::chip::device::Device;
+use crate::chip::event::{counted, refusal, Answered, Event};
 use crate::chip::machine::Machine;
 use crate::chip::registers::Register;
+use crate::chip::wrong_chip;
 use crate::fault::{Fault, Place};
 use crate::numbers;
 use crate::scripts::statement::{Action, Fill, Statement};
@@ -59,7 +61,7 @@ impl Player {
     #[cold]
     fn refused_unexpectedly(&mut self) -> Result<(), Fault> {
         match self.refused.take() {
-            Some((place, answered)) => Err(Fault::failed_at(place, unexpected(&answered))),
+            Some((place, answered)) => Err(Fault::failed_at(place, unexpected(&answered, &self.machine))),
             None => Ok(()),
         }
     }
@@ -68,6 +70,7 @@ impl Player {
     pub fn carry_out(&mut self, statement: &Statement) -> Result<Played, Fault> {
         let place = statement.place;
         match &statement.action {
+            Action::Chip { device } => self.begin_with(place, *device)?,
             action @ (Action::Fill(_) | Action::Set { .. }) => prepare(&mut self.machine, action),
             Action::Event(event) => return Ok(Played::Answered(self.event(place, *event))),
             Action::Reply { number, words, value } => self.expect_reply(place, *number, *words, *value)?,
@@ -80,10 +83,19 @@ impl Player {
         Ok(Played::Held)
     }
 
+    /// A machine of another chip. Readers see that nothing stands before that depends on it, but for the events of a compact record.
+    fn begin_with(&mut self, place: Place, device: Device) -> Result<(), Fault> {
+        if let Some(Answered { event, .. }) = self.answered {
+            return Err(Fault::bad_at(place, format!("`chip {device}` after `{event}`: expected before the first event")));
+        }
+        self.machine = Machine::new(device);
+        Ok(())
+    }
+
     #[inline]
     pub fn event(&mut self, place: Place, event: Event) -> Answered {
         let reply = self.machine.event(event.kind, event.value);
-        self.answered(place, Answered { event, reply })
+        self.answered(place, Answered { device: self.machine.device(), event, reply })
     }
 
     /// Notes what an event was answered.
@@ -124,7 +136,7 @@ impl Player {
         }
         let expected = format!("{number}{}", parts(&answered, words, value));
         let found = parts(&answered, words.map(|_| u32::from(reply.words)), value.map(|_| u32::from(reply.value)));
-        let message = format!("expected reply {expected}, found {} ({}){found}", reply.number, meaning(reply.number));
+        let message = format!("expected reply {expected}, found {} ({}){found}", reply.number, answered.meaning());
         Err(Fault::failed_at(place, message))
     }
 
@@ -134,12 +146,12 @@ impl Player {
     }
 
     fn expect_register(&self, place: Place, register: &Register, value: u16) -> Result<(), Fault> {
-        let found = (register.get)(&self.machine.registers);
+        let found = (register.get)(&self.machine.held);
         same(place, register.name, value, found, |value| register.print(value))
     }
 
     fn expect_ram(&self, place: Place, cell: usize, value: u16) -> Result<(), Fault> {
-        let found = self.machine.ram.get(cell).copied().unwrap_or(0);
+        let found = self.machine.cells().get(cell).copied().unwrap_or(0);
         same(place, &format!("ram {cell:02X}H"), value, found, numbers::register)
     }
 
@@ -155,7 +167,7 @@ impl Player {
 pub fn prepare(machine: &mut Machine, action: &Action) {
     match action {
         Action::Fill(Fill { memory, from, values, .. }) => machine.fill(*memory, *from, values),
-        Action::Set { register, value } => (register.set)(&mut machine.registers, *value),
+        Action::Set { register, value } => (register.set)(&mut machine.held, *value),
         _ => {}
     }
 }
@@ -165,10 +177,11 @@ fn may_come_before_reply(action: &Action) -> bool {
     matches!(action, Action::Reply { .. } | Action::Sent { .. } | Action::Expect { .. } | Action::ExpectRam { .. } | Action::Show)
 }
 
-fn unexpected(answered: &Answered) -> String {
-    let Answered { event, reply } = answered;
+fn unexpected(answered: &Answered, machine: &Machine) -> String {
+    let Answered { device, event, reply } = answered;
     let words = if event.kind == kind::RUN { format!(" after {}", counted(u32::from(reply.words))) } else { String::new() };
-    format!("`{event}` is refused{words}: refusal {}, {}; no `reply` expects it", reply.number, meaning(reply.number))
+    let perhaps = wrong_chip::perhaps(machine, reply.number).unwrap_or_default();
+    format!("`{event}` is refused{words}: {}{perhaps}; no `reply` expects it", refusal(*device, reply.number))
 }
 
 /// The parts of a reply that a `reply` statement names.
@@ -186,4 +199,22 @@ fn same(place: Place, name: &str, expected: u16, found: u16, print: impl Fn(u16)
         return Ok(());
     }
     Err(Fault::failed_at(place, format!("expected {name} {}, found {}", print(expected), print(found))))
+}
+
+#[cfg(test)]
+mod tests {
+    use super::*;
+    use crate::fault::Spot;
+    use std::path::Path;
+
+    /// No script is read so; a compact record hands its events out unseen.
+    #[test]
+    fn no_chip_stands_behind_an_event() {
+        let place = Place { file: Path::new("x"), spot: Spot::WholeFile };
+        let mut player = Player::new();
+        let mut play = |action| player.play(&Statement { place, action }).map(|_| ()).map_err(|fault| fault.to_string());
+        assert_eq!(play(Action::Event(Event { kind: kind::RUN, value: 1 })), Ok(()));
+        let told = "x: `chip 77C25` after `run 1`: expected before the first event";
+        assert_eq!(play(Action::Chip { device: Device::Upd77c25 }), Err(told.to_string()));
+    }
 }

@@ -2,7 +2,7 @@
 
 use crate::fault::{self, Fault, Place, Spot};
 use crate::files::{first_bytes, is_standard};
-use crate::images::{self, Image};
+use crate::images::{self, larger_chip, Image};
 use crate::scripts::given;
 use crate::scripts::parse::{self, NamedImage};
 use crate::scripts::seen::Seen;
@@ -72,9 +72,9 @@ impl Reader {
         Reader { open, next, images: false, seen: Seen::default(), files, included: 0, bytes: 0, failed: false }
     }
 
-    /// Sees what was given before the first statement.
+    /// Sees the images that were given before the first statement.
     pub fn given(&mut self, before: &[Statement]) -> Result<(), Fault> {
-        before.iter().try_for_each(|statement| self.seen.see(&statement.action, statement.place))
+        before.iter().try_for_each(|image| self.seen.see_image(image))
     }
 
     /// Every file that was read so far.
@@ -106,7 +106,7 @@ impl Reader {
             return Ok(None);
         }
         let image = given::statement(Image::Program, path, input)?;
-        self.seen.see(&image.action, image.place)?;
+        self.seen.see_image(&image)?;
         Ok(Some(image))
     }
 
@@ -138,7 +138,7 @@ impl Reader {
                     self.seen.not_ended(first.place)?;
                     self.image(&named)?
                 }
-                None => parse::statement(&first, &mut words)?,
+                None => parse::statement(self.seen.device(), &first, &mut words)?,
             };
             self.seen.see(&action, first.place)?;
             return Ok(Some(Statement { place: first.place, action }));
@@ -163,6 +163,10 @@ impl Reader {
     fn image(&mut self, NamedImage { image, patch, name }: &NamedImage) -> Result<Action, Fault> {
         if is_standard(Path::new(&name.text)) {
             return Err(name.wrong("a file"));
+        }
+        if let Some(said) = self.seen.larger_chip() {
+            let message = format!("{:?} behind {said}: {}", name.text, larger_chip::refused(image.memory()));
+            return Err(Fault::bad_at(name.place, message));
         }
         let path = beside(name);
         let filled = self.opened(&path).and_then(|input| given::filled(*image, *patch, &path, input));
@@ -237,6 +241,8 @@ mod tests {
     #[test]
     fn a_statement_is_read_as_it_is_written() {
         let lines = [
+            "chip 77P20",
+            "chip 77c25",
             "program 01FH: 0000BAH 0FFFFFFFFH",
             "patch ram 07FH: FFFFH",
             "rom 000H: 1FFFH",
@@ -280,7 +286,7 @@ mod tests {
     #[test]
     fn what_was_expected_is_named() {
         assert_eq!(fault("runn 5"), "x:1:1: \"runn\": expected a statement, perhaps \"run\"");
-        assert!(fault("dance").starts_with("x:1:1: \"dance\": expected a statement: include, program, "));
+        assert!(fault("dance").starts_with("x:1:1: \"dance\": expected a statement: chip, include, program, "));
         assert_eq!(fault("in 0x10"), "x:1:4: \"0x10\": expected a value, a number up to FFFFFFFFH (numbers are written 1234H or 4660)");
         assert_eq!(fault("set OVA 1"), "x:1:5: \"OVA\": expected the name of a register, perhaps \"OVA1\"");
         assert_eq!(fault("rate 0"), "x:1:6: \"0\": expected samples a second, at least 1");

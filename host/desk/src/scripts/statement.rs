@@ -1,6 +1,7 @@
 //! The statements of scripts and records, and each as it is written.
 //!
 //! ```text
+//! chip NAME                     77P20 or 77C25, before all that depends on it; 77P20 where it is not said
 //! include FILE                  the statements of another script, beside this one
 //! program ADDRESS: WORD ..      instruction words from an address on
 //! program FILE                  all of them: an image in Intel HEX, beside this script
@@ -22,6 +23,7 @@
 //! samples NUMBER                the end of a record: how many words were sent
 //! ```
 
+use crate::chip::device::Device;
 use crate::chip::event::Event;
 use crate::chip::machine::Memory;
 use crate::chip::registers::Register;
@@ -29,7 +31,8 @@ use crate::fault::Place;
 use std::fmt;
 
 /// The names that a statement may begin with, for messages.
-pub const NAMES: [&str; 24] = [
+pub const NAMES: [&str; 25] = [
+    "chip",
     "include",
     "program",
     "data",
@@ -58,6 +61,7 @@ pub const NAMES: [&str; 24] = [
 
 #[derive(Clone, Debug, PartialEq)]
 pub enum Action {
+    Chip { device: Device },
     Fill(Fill),
     Set { register: &'static Register, value: u16 },
     Event(Event),
@@ -81,7 +85,7 @@ pub struct Fill {
 }
 
 impl Fill {
-    /// Whether it gives every cell of the RAM, as a preset does.
+    /// Whether it gives every cell of the 77P20's RAM, as a preset does.
     pub fn is_preset(&self) -> bool {
         self.memory == Memory::Ram && self.values.len() == bemulatsho::RAM
     }
@@ -97,6 +101,7 @@ impl Action {
     /// The name that it begins with.
     pub fn name(&self) -> &'static str {
         match self {
+            Action::Chip { .. } => "chip",
             Action::Fill(Fill { patch: true, .. }) => "patch",
             Action::Fill(Fill { memory, .. }) => memory.name(),
             Action::Set { .. } => "set",
@@ -116,6 +121,7 @@ impl Action {
 impl fmt::Display for Action {
     fn fmt(&self, f: &mut fmt::Formatter) -> fmt::Result {
         match self {
+            Action::Chip { device } => write!(f, "chip {device}"),
             Action::Fill(fill) => write!(f, "{fill}"),
             Action::Set { register, value } => write!(f, "set {} {}", register.name, register.print(*value)),
             Action::Event(event) => write!(f, "{event}"),

@@ -1,5 +1,6 @@
 //! What the check of one track has found. However long the track is, this stays small.
 
+use crate::chip::device::Device;
 use crate::chip::state::State;
 use crate::fault::{Fault, Place};
 use crate::tracks::fit::{Share, Shares, Sums};
@@ -16,6 +17,8 @@ const COLUMNS_A_SECOND: u32 = 50;
 pub struct Findings {
     /// The track's name for people.
     pub name: String,
+    /// The chip that the track is held against.
+    pub device: Device,
     pub rate: Option<u32>,
     /// The names of the sources, in the order in which their words go in.
     pub sources: Vec<String>,
@@ -157,6 +160,7 @@ impl Findings {
     pub fn new(name: impl Into<String>) -> Findings {
         Findings {
             name: name.into(),
+            device: Device::default(),
             rate: None,
             sources: Vec::new(),
             samples: 0,
@@ -179,6 +183,14 @@ impl Findings {
             second: None,
             second_differs: false,
             fitted: None,
+        }
+    }
+
+    /// The chip that the program is for; where it is the larger one, a person is told.
+    pub fn of_chip(&mut self, device: Device) {
+        self.device = device;
+        if device == Device::Upd77c25 {
+            self.notes.push(format!("the chip is the {device}"));
         }
     }
 

@@ -44,6 +44,7 @@ pub fn source_name(file: &Path) -> String {
 fn compare(sounds: &Sounds, findings: &mut Findings, meter: &Meter) -> Result<(), Fault> {
     findings.files = sounds.sources.iter().chain([&sounds.sent]).cloned().collect();
     let Prepared { machine, .. } = prepared(&sounds.images, Reader::of_files_or_images(&sounds.scripts), &mut findings.files)?;
+    findings.of_chip(machine.device());
     let mut inputs = Inputs::open(&sounds.sources)?;
     let mut sent = wav::open(&sounds.sent)?;
     inputs.same_rate(&sounds.sent, sent.rate())?;

@@ -32,7 +32,9 @@ pub fn prepared(images: &Images, mut scripts: Reader, files: &mut Vec<PathBuf>) 
     for statement in statements? {
         let played = player.play(&statement)?;
         actions.push(statement.action);
-        if let Played::Answered(Answered { event: Event { kind: kind::SERIAL_OUT, .. }, reply: Reply { number: 0, value, .. } }) = played {
+        if let Played::Answered(Answered { event: Event { kind: kind::SERIAL_OUT, .. }, reply: Reply { number: 0, value, .. }, .. }) =
+            played
+        {
             actions.push(Action::Sent { word: value });
             sent += 1;
         }
@@ -58,11 +60,12 @@ fn statements(given: Vec<Statement>, scripts: &mut Reader) -> Result<Vec<Stateme
 /// Statements that only check or print have no place in a mix.
 fn only_prepares(statement: &Statement) -> Result<(), Fault> {
     match &statement.action {
-        Action::Fill(_) | Action::Set { .. } | Action::Event(_) => Ok(()),
+        Action::Chip { .. } | Action::Fill(_) | Action::Set { .. } | Action::Event(_) => Ok(()),
         other => {
             let name = other.name();
-            let message =
-                format!("{name:?}: expected only program, data, rom, ram, preset, patch, set, include and events in a script for a mix");
+            let message = format!(
+                "{name:?}: expected only chip, program, data, rom, ram, preset, patch, set, include and events in a script for a mix"
+            );
             Err(Fault::bad_at(statement.place, message))
         }
     }

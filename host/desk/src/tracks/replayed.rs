@@ -151,6 +151,10 @@ impl Replay {
         }
         self.since.prepared(action);
         let played = self.player.carry_out(statement);
+        if let (Action::Chip { device }, Ok(_)) = (action, &played) {
+            self.findings.of_chip(*device);
+            self.since = Since::new(&self.player.machine);
+        }
         let judges = matches!(action, Action::Reply { .. } | Action::Expect { .. } | Action::ExpectRam { .. });
         if judges && matches!(played, Ok(Played::Held)) {
             self.since.held(&self.player.machine);

@@ -1,5 +1,7 @@
 //! Tracks of ten seconds for tests, at 8000 samples a second: booth, floor, relay and the room, mixed by the gains of the examples.
 
+use crate::chip::machine::Machine;
+use crate::chip::state::State;
 use crate::fault::{named, Fault, Place, Spot};
 use crate::tracks::findings::{Chip, Findings, Stretch};
 use random::Random;
@@ -73,8 +75,8 @@ pub fn exchanged(name: &str, from: u64) -> Findings {
 /// The trial desk's fault, with what an engineer looks for.
 pub fn trial(name: &str) -> Findings {
     let mut findings = track(name, LENGTH, |_, inputs, _| mixed(inputs, &[0.0, 0.0, 0.0, 1.1]));
-    let mut before = crate::chip::state::State { registers: Default::default(), ram: [0; bemulatsho::RAM] };
-    before.registers.pc = 0x00d;
+    let mut before = State::of(&Machine::default());
+    before.held.registers.pc = 0x00d;
     let lines = ["     1  00DH  600004H  LDI @DP,00H", "     2  00FH  0002F3H  MOV @TR,MEM M1    TR E273H  DP 10H"].map(String::from);
     findings.stretch = Some(Stretch { before, words: 24, lines: lines.to_vec() });
     findings

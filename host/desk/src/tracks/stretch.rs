@@ -75,7 +75,7 @@ impl Since {
         }
         let mut machine = machine.clone();
         machine.go_back(&self.kept);
-        let columns = Columns::of_program(&machine.program);
+        let columns = Columns::of_program(&machine);
         let mut stretch = Stretch { before: State::of(&machine), words: 0, lines: Vec::new() };
         let mut prepared = self.prepared.iter().peekable();
         for (at, event) in self.events.iter().enumerate() {

@@ -103,7 +103,7 @@ fn differs(findings: &Findings, difference: &Difference, start: Start) -> String
     let sent = numbers::register(difference.sent);
     let chip = match difference.chip {
         Chip::Sends(word) => format!("the chip sends {}", numbers::register(word)),
-        Chip::Refuses(number) => format!("the chip sends nothing ({})", refusal(number)),
+        Chip::Refuses(number) => format!("the chip sends nothing ({})", refusal(findings.device, number)),
     };
     let largest = match findings.largest.error {
         0 => String::new(),

@@ -6,7 +6,7 @@ use std::os::unix::fs::symlink;
 /// Every kind of statement, and names, numbers and places that are written in more than one way.
 const EVERY: &str = "# every statement\n\
     RATE 48000\nsources booth \"the floor # 1\" \"\" \u{e9}\n\
-    include part.desk\n\
+    chip 77p20\ninclude part.desk\n\
     rom 1F0H: 1FFFH 12 0\nram 7FH: ABCDH\npatch ram 7EH: 1 2\n\
     set TR 7FFFH\nset CA 1\nset DEPTH 0\n\
     run 3\nreply 0 words 3\nrun 0\nrun 65536\nreply 3 words 0 value 0\n\
@@ -63,7 +63,8 @@ fn the_text_has_every_statement_and_nothing_else() {
     let text = folder.desk("convert one.record -").printed;
     let lines: Vec<&str> = text.lines().collect();
     assert_eq!(lines.len(), EVERY.lines().count() - 1, "all but the comment");
-    assert_eq!(lines[..3], ["rate 48000", "sources booth \"the floor # 1\" \"\" \u{e9}", "program 000H: 624681H 0A8030H 501000H"]);
+    let first = ["rate 48000", "sources booth \"the floor # 1\" \"\" \u{e9}", "chip 77P20", "program 000H: 624681H 0A8030H 501000H"];
+    assert_eq!(lines[..4], first);
     assert_eq!(lines.last(), Some(&"samples 2"));
     assert!(lines.iter().all(|line| !line.starts_with("include") && !line.starts_with('#')), "{text}");
 }

@@ -2,6 +2,7 @@
 
 mod check_image;
 mod check_track;
+mod chips;
 mod closed_pipes;
 mod convert;
 mod example;

@@ -1,7 +1,7 @@
 //! `desk preset diff`: the cells in which two presets differ.
 
 use super::file;
-use crate::chip::ram::{self, Ram};
+use crate::chip::ram;
 use crate::commands::arguments::Arguments;
 use crate::commands::image_files::{called, files};
 use crate::fault::Fault;
@@ -25,7 +25,7 @@ pub fn command(arguments: &[String]) -> Result<(), Fault> {
 }
 
 /// A line a cell.
-fn differences((one, cells): (&Path, &Ram), (other, others): (&Path, &Ram)) -> Vec<String> {
+fn differences((one, cells): (&Path, &[u16]), (other, others): (&Path, &[u16])) -> Vec<String> {
     let differ = cells.iter().zip(others).enumerate().filter(|(_, (cell, other))| cell != other);
     let line = |(at, (cell, its_other)): (usize, (&u16, &u16))| {
         format!(

@@ -1,7 +1,7 @@
 //! `desk preset show`: the cells of a preset in the rows and columns of DP.
 
 use super::file;
-use crate::chip::ram::{self, Ram};
+use crate::chip::ram;
 use crate::commands::arguments::Arguments;
 use crate::commands::image_files::files;
 use crate::fault::Fault;
@@ -16,8 +16,8 @@ pub fn command(arguments: &[String]) -> Result<(), Fault> {
 }
 
 /// The bits of DP over the rows and columns that they choose, the columns over the cells, and before each row its bits.
-fn table(cells: &Ram) -> Vec<String> {
-    let rows = ram::rows().map(|from| format!("{}    {}", ram::row_bits(from), ram::row(from, cells, cells, None)));
+fn table(cells: &[u16]) -> Vec<String> {
+    let rows = ram::rows(cells).map(|from| format!("{}    {}", ram::row_bits(from), ram::row(from, cells, cells, None)));
     let head = ["DP6-4       DP3-0".to_string(), format!("row    {}", ram::header())];
     head.into_iter().chain(rows).map(|line| line.trim_end().to_string()).collect()
 }

@@ -1,7 +1,7 @@
 //! `desk preset write`: plays a script as `desk run --quiet` does, and writes what it leaves in the RAM.
 
 use super::file;
-use crate::chip::ram::Ram;
+use crate::chip::device::Device;
 use crate::commands::arguments::{Argument, Arguments};
 use crate::commands::image_files::called;
 use crate::commands::script::{self, Script, Statements};
@@ -28,9 +28,15 @@ struct Asked<'a> {
 
 pub fn command(arguments: &[String]) -> Result<(), Fault> {
     let Asked { script, images, events, out } = asked(arguments)?;
-    let mut has = 0;
-    let Script { statements, files } =
-        script::checked(script, &images, |statement| has += u64::from(matches!(statement.action, Action::Event(_))))?;
+    let (mut has, mut larger_chip) = (0, None);
+    let Script { statements, files } = script::checked(script, &images, |statement| match statement.action {
+        Action::Event(_) => has += 1,
+        Action::Chip { device: device @ Device::Upd77c25 } => larger_chip = Some((statement.place, device)),
+        _ => {}
+    })?;
+    if let Some((place, device)) = larger_chip {
+        return Err(Fault::bad_at(place, format!("`chip {device}`: presets in Intel HEX are of the 77P20: expected a script for that")));
+    }
     if let Some(events) = events.filter(|events| *events > has) {
         let (script, has) = (called(Path::new(script)).display(), counted(has as usize, "event"));
         return Err(Fault::bad(format!("--events {events}: {script} has {has}: expected no more than that")));
@@ -63,7 +69,7 @@ fn asked(arguments: &[String]) -> Result<Asked<'_>, Fault> {
 }
 
 /// The RAM as the script leaves it, or as it is before the first event that is not played.
-fn played(statements: Statements, events: Option<u64>) -> Result<Ram, Fault> {
+fn played(statements: Statements, events: Option<u64>) -> Result<Vec<u16>, Fault> {
     let mut player = Player::new();
     let mut played = 0;
     for statement in statements {
@@ -77,10 +83,10 @@ fn played(statements: Statements, events: Option<u64>) -> Result<Ram, Fault> {
         player.play(&statement)?;
     }
     player.settle()?;
-    Ok(player.machine.ram)
+    Ok(player.machine.cells().to_vec())
 }
 
-fn write(out: &Path, ram: &Ram) -> Result<(), Fault> {
+fn write(out: &Path, ram: &[u16]) -> Result<(), Fault> {
     let text = preset::written(ram)?;
     let mut output = Output::new();
     if is_standard(out) {

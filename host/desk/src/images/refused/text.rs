@@ -1,7 +1,7 @@
 //! What is wrong with the records of a text together: 15 and 16.
 
 use super::{lines, Reason};
-use crate::images::Image;
+use crate::images::{larger_chip, Image};
 use bemulatsho::{read_record, Record};
 use std::ops::Range;
 
@@ -21,13 +21,19 @@ pub fn addresses(image: Image, text: &[u8], line: usize) -> Option<Reason> {
     }
     for address in addressed(&last) {
         match given.get(address) {
-            None => return Some(wrong_address(format!("{address:04X}H is outside: expected {}", all(image)))),
+            None => return Some(wrong_address(format!("{address:04X}H is outside: expected {}{}", all(image), perhaps(image, text)))),
             Some(0) => put(&mut given, address, line),
             Some(before) => return Some(wrong_address(format!("{address:04X}H was given before, in line {before}: expected each once"))),
         }
     }
     let end = if is_end(&last) { "" } else { "; there is no end record" };
     missing(image, &given).map(|missing| Reason { column: None, why: format!("{missing}{end}") })
+}
+
+/// What is said of an image that is one of the larger chip, by the highest address of its records.
+fn perhaps(image: Image, text: &[u8]) -> String {
+    let highest = lines(text).map(read_record).filter_map(|record| addressed(&record).last()).max();
+    highest.and_then(|highest| larger_chip::perhaps(image, highest)).unwrap_or_default()
 }
 
 fn wrong_address(why: String) -> Reason {

@@ -3,6 +3,7 @@
 use super::trial::good;
 use super::Checked;
 use crate::folder::Folder;
+use desk::chip::device::Device;
 use desk::chip::event::Event;
 use desk::chip::machine::Machine;
 use desk::scripts::reader::read_text;
@@ -27,7 +28,7 @@ struct Replay {
 
 impl Replay {
     fn new() -> Replay {
-        let (registers, images) = (emulator::Registers::default(), Machine::new());
+        let (registers, images) = (emulator::Registers::default(), Machine::default());
         Replay { registers, images, last: None, refused: false, unsaid: false, rated: false, sent: 0, ended: false }
     }
 
@@ -56,7 +57,7 @@ impl Replay {
     fn event(&mut self, event: Event) -> bool {
         let was_said = !self.unsaid;
         let Machine { program, rom, ram, .. } = &mut self.images;
-        let reply = emulator::event(&mut self.registers, program, rom, ram, event.kind, event.value);
+        let reply = emulator::event(&mut self.registers, program, rom, ram.of_mut(Device::Upd77p20), event.kind, event.value);
         self.refused = reply.number != 0;
         self.unsaid = event.kind == OUT && !self.refused;
         self.last = Some((event.kind, reply));

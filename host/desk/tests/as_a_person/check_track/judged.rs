@@ -87,7 +87,8 @@ fn the_words_of_an_interrupt_are_judged() {
 #[test]
 fn a_word_that_is_refused_in_a_run_is_told_before_the_difference() {
     let checked = both_forms("program 0: 800000H\nrun 3\nout\nsent 1\nsamples 1\n");
-    let refused = "x.record:2:1: `run 3` is refused after 0 words: refusal 4, the word at PC is 2^23 or more; no `reply` expects it";
+    let refused = "x.record:2:1: `run 3` is refused after 0 words: refusal 4, the word at PC is 2^23 or more \
+                   (800000H has 24 bits: a program of the 77C25 stands behind `chip 77C25`); no `reply` expects it";
     let differs = "at sample 0 the desk sent 0001H, the chip sends nothing (refusal 10, serial out with SORQ 0) (x.record:4:1); ";
     checked.begins("differs", &format!("{refused}; {differs}"));
 }

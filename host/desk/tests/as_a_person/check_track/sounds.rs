@@ -224,7 +224,7 @@ fn sounds_of_which_none_states_a_length_are_incomplete() {
 fn a_script_that_only_checks_is_unreadable() {
     let folder = evening().with("checks.desk", "run 0\nexpect A 0\n");
     let checked = folder.check(&CHECK.replace("preset.desk", "preset.desk checks.desk"));
-    checked.begins("unreadable", "checks.desk:2:1: \"expect\": expected only program, data, rom, ram, preset, patch, set, ");
+    checked.begins("unreadable", "checks.desk:2:1: \"expect\": expected only chip, program, data, rom, ram, preset, patch, set, ");
 }
 
 /// Every bit of the header and of some samples, each a track of one call, none helped by the length of another.

@@ -1,6 +1,7 @@
 //! The trial desk's failure: the records of `examples/trial`, which are made here, and what is said of them.
 
 use crate::folder::{examples, hexadecimal, Folder};
+use desk::chip::device::Device;
 use desk::chip::machine::Machine;
 use desk::scripts::reader::Reader;
 use desk::scripts::statement::{Action, Fill};
@@ -65,7 +66,7 @@ fn trial_examples() -> PathBuf {
 
 /// A machine with the program and the preset of the trial.
 fn prepared() -> Machine {
-    let mut machine = Machine::new();
+    let mut machine = Machine::default();
     for statement in Reader::of_files(&["channels.desk", "preset.desk"].map(|name| trial_examples().join(name))) {
         let Action::Fill(Fill { memory, from, values, .. }) = statement.expect("a script of the trial").action else {
             panic!("the scripts of the trial hold images only")
@@ -81,7 +82,7 @@ fn recorded(title: &str, desk: Desk, samples: usize, turn: fn(usize) -> Turn) ->
     let mut registers = emulator::Registers::default();
     let mut text = format!("# {title}\ninclude channels.desk\ninclude preset.desk\nrate 48000\nsources booth floor relay room\n");
     let mut event = |text: &mut String, kind: u32, line: String, value: u32| {
-        let reply = desk(&mut registers, &program, &rom, &mut ram, kind, value);
+        let reply = desk(&mut registers, &program, &rom, ram.of_mut(Device::Upd77p20), kind, value);
         assert_eq!(reply.number, 0, "{line}");
         writeln!(text, "{line}").expect("a line");
         reply.value

@@ -92,7 +92,8 @@ fn a_text_may_be_written_in_many_ways() {
 fn a_word_that_is_too_wide_is_loaded_and_refused_when_it_runs() {
     let folder = Folder::new().with("p.hex", program(&[0, 0x0080_0000])).with("s.desk", "run 1\nrun 1\n");
     let printed = "run 1: 0 done, 1 word\nrun 1: 4 the word at PC is 2^23 or more, 0 words\n";
-    let told = "desk: s.desk:2:1: `run 1` is refused after 0 words: refusal 4, the word at PC is 2^23 or more; no `reply` expects it\n";
+    let told = "desk: s.desk:2:1: `run 1` is refused after 0 words: refusal 4, the word at PC is 2^23 or more \
+                (800000H has 24 bits: a program of the 77C25 stands behind `chip 77C25`); no `reply` expects it\n";
     assert_eq!(folder.desk("run --program p.hex s.desk"), Ran::new(1, printed, told));
 }
 

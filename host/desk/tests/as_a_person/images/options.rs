@@ -50,7 +50,10 @@ fn an_image_where_a_script_belongs_is_told() {
 fn a_colon_further_down_is_an_unknown_statement() {
     let folder = last_cell().with("s.desk", "run 1\n:00000001FF\n");
     let ran = folder.desk("run s.desk");
-    assert!(ran.told.starts_with("desk: s.desk:2:1: \":00000001FF\": expected a statement: include, program, data, rom, "), "{ran:?}");
+    assert!(
+        ran.told.starts_with("desk: s.desk:2:1: \":00000001FF\": expected a statement: chip, include, program, data, rom, "),
+        "{ran:?}"
+    );
 }
 
 /// The options may stand anywhere, and behind `--` a script may have any name.

@@ -196,7 +196,9 @@ fn an_image_of_the_other_kind_is_told() {
     let told = format!("d.hex:65: {ADDRESS}: 0400H is missing, and 1023 more: expected 0000H to 07FFH: \":00000001FF\"");
     folder.desk("run --program d.hex s.desk").is_refused(2, &told);
     let line = ":1004000000000000000000000000000000000000EC";
-    let told = format!("p.hex:65:4: {ADDRESS}: 0400H is outside: expected 0000H to 03FFH: {line:?}");
+    let ends_so =
+        "07FFH is the last, as of a program of the 77P20, or a data ROM of the 77C25, whose cells stand in a script behind `chip 77C25`";
+    let told = format!("p.hex:65:4: {ADDRESS}: 0400H is outside: expected 0000H to 03FFH; {ends_so}: {line:?}");
     folder.desk("run --data p.hex s.desk").is_refused(2, &told);
     folder.write("d.hex", text(&[0; 1023]));
     let told = format!("d.hex:65: {ADDRESS}: 03FFH is missing: expected 0000H to 03FFH: \":00000001FF\"");

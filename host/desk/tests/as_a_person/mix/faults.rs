@@ -87,7 +87,7 @@ fn statements_that_check_or_print_are_bad_in_a_mix() {
     for text in ["reply 0", "sent 0", "expect A 0", "expect ram 0 0", "show", "rate 8000", "sources booth", "samples 0"] {
         folder.write("checks.desk", format!("run 0\n  {text}\n"));
         let name = text.split(' ').next().expect("a name");
-        let expected = "expected only program, data, rom, ram, preset, patch, set, include and events in a script for a mix";
+        let expected = "expected only chip, program, data, rom, ram, preset, patch, set, include and events in a script for a mix";
         let told = format!("checks.desk:2:3: {name:?}: {expected}");
         folder.desk("mix mixing.desk checks.desk --in booth.wav --out track.wav").is_refused(2, &told);
     }

@@ -25,7 +25,7 @@ fn copied() -> Folder {
 /// The cells that a day's script gives, each in its line.
 fn map(day: &str) -> Cells {
     let script = Reader::of_files(&[examples().join(format!("presets/{day}.desk"))]);
-    prepared(&Images::default(), script, &mut Vec::new()).expect("a channel map").machine.ram
+    prepared(&Images::default(), script, &mut Vec::new()).expect("a channel map").machine.cells().try_into().expect("128 cells")
 }
 
 #[test]

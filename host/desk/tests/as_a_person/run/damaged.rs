@@ -4,7 +4,7 @@ use crate::folder::Folder;
 use random::Random;
 
 const GOOD: &str = "# every statement\n\
-    rate 48000\nsources booth \"the floor\"\n\
+    chip 77P20\nrate 48000\nsources booth \"the floor\"\n\
     program 0: 624681H 0A8030H 501000H\n\
     rom 1F0H: 1FFFH 12 0\n\
     ram 7FH: ABCDH\n\

@@ -1,6 +1,7 @@
 //! The examples of the repository, and that none of their expectations is there for show.
 
 use crate::folder::{examples, Folder};
+use desk::chip::device::Device;
 use desk::chip::registers::named;
 use desk::fault::Fault;
 use desk::scripts::player::Player;
@@ -72,7 +73,7 @@ fn made_wrong(line: &str) -> Option<String> {
         return None;
     }
     let last = words.pop()?;
-    let flag = words.get(1).is_some_and(|name| named(name).is_some_and(|register| register.largest == 1));
+    let flag = words.get(1).is_some_and(|name| named(Device::Upd77c25, name).is_some_and(|register| register.largest == 1));
     words.push(if flag { ["1", "0"][usize::from(last == "1")] } else { "99" });
     Some(words.join(" "))
 }
