@@ -14,11 +14,11 @@ use device::Chip;
 use device::Registers;
 use machine::Event;
 use machine::Reply;
+use rows::AnyRows;
 use word::Built;
 use word::JpFields;
 use word::LdiFields;
 use word::OpFields;
-use word::Word;
 
 // ---- events
 
@@ -113,55 +113,18 @@ pub struct TakenRows {
 pub extern "C" fn bemulatsho_take_apart(word: u32) -> TakenRows
     ensures { λ r. ⌜ r ≡ takenRows word ⌝ }
 {
-    let taken = word::take_apart(false, word);
-    let refusal = taken.refusal;
-    let row = taken.word;
-    match row {
-        Word::Op(f) => TakenRows {
-            refusal,
-            rows: Rows {
-                row: 0,
-                op: f,
-                jp: word::no_jp(),
-                ldi: word::no_ldi(),
-            },
-        },
-        Word::Rt(f) => TakenRows {
-            refusal,
-            rows: Rows {
-                row: 1,
-                op: f,
-                jp: word::no_jp(),
-                ldi: word::no_ldi(),
-            },
-        },
-        Word::Jp(f) => TakenRows {
-            refusal,
-            rows: Rows {
-                row: 2,
-                op: word::no_op(),
-                jp: f,
-                ldi: word::no_ldi(),
-            },
-        },
-        // Not a row of this chip, whose taker never hands it.
-        Word::JpCode(_) => TakenRows {
-            refusal,
-            rows: Rows {
-                row: 4,
-                op: word::no_op(),
-                jp: word::no_jp(),
-                ldi: word::no_ldi(),
-            },
-        },
-        Word::Ldi(f) => TakenRows {
-            refusal,
-            rows: Rows {
-                row: 3,
-                op: word::no_op(),
-                jp: word::no_jp(),
-                ldi: f,
-            },
+    let taken = rows::take_apart(false, word);
+    let held = taken.rows;
+    let op = held.op;
+    let jp = held.jp;
+    let ldi = held.ldi;
+    TakenRows {
+        refusal: taken.refusal,
+        rows: Rows {
+            row: held.row,
+            op,
+            jp,
+            ldi,
         },
     }
 }
@@ -170,18 +133,15 @@ pub extern "C" fn bemulatsho_take_apart(word: u32) -> TakenRows
 pub extern "C" fn bemulatsho_build(rows: Rows) -> Built
     ensures { λ r. ⌜ r ≡ builtRows rows ⌝ }
 {
-    let row = rows.row;
     let op = rows.op;
     let jp = rows.jp;
     let ldi = rows.ldi;
-    match row {
-        0 => word::build(false, Word::Op(op)),
-        1 => word::build(false, Word::Rt(op)),
-        2 => word::build(false, Word::Jp(jp)),
-        3 => word::build(false, Word::Ldi(ldi)),
-        _ => Built {
-            refusal: 11,
-            bits: 0,
-        },
-    }
+    let every = AnyRows {
+        row: rows.row,
+        op,
+        jp,
+        code: rows::no_code(),
+        ldi,
+    };
+    rows::build(false, every)
 }

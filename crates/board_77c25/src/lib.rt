@@ -10,11 +10,11 @@ use device::Chip;
 use device::Registers;
 use machine::Event;
 use machine::Reply;
+use rows::AnyRows;
 use word::Built;
 use word::CodeFields;
 use word::LdiFields;
 use word::OpFields;
-use word::Word;
 
 // ---- events
 
@@ -115,55 +115,18 @@ pub struct TakenLargeRows {
 pub extern "C" fn bemulatsho_77c25_take_apart(word: u32) -> TakenLargeRows
     ensures { λ r. ⌜ r ≡ takenLargeRows word ⌝ }
 {
-    let taken = word::take_apart(true, word);
-    let refusal = taken.refusal;
-    let row = taken.word;
-    match row {
-        Word::Op(f) => TakenLargeRows {
-            refusal,
-            rows: LargeRows {
-                row: 0,
-                op: f,
-                jp: word::no_code(),
-                ldi: word::no_ldi(),
-            },
-        },
-        Word::Rt(f) => TakenLargeRows {
-            refusal,
-            rows: LargeRows {
-                row: 1,
-                op: f,
-                jp: word::no_code(),
-                ldi: word::no_ldi(),
-            },
-        },
-        // Not a row of this chip, whose taker never hands it.
-        Word::Jp(_) => TakenLargeRows {
-            refusal,
-            rows: LargeRows {
-                row: 4,
-                op: word::no_op(),
-                jp: word::no_code(),
-                ldi: word::no_ldi(),
-            },
-        },
-        Word::JpCode(f) => TakenLargeRows {
-            refusal,
-            rows: LargeRows {
-                row: 2,
-                op: word::no_op(),
-                jp: f,
-                ldi: word::no_ldi(),
-            },
-        },
-        Word::Ldi(f) => TakenLargeRows {
-            refusal,
-            rows: LargeRows {
-                row: 3,
-                op: word::no_op(),
-                jp: word::no_code(),
-                ldi: f,
-            },
+    let taken = rows::take_apart(true, word);
+    let held = taken.rows;
+    let op = held.op;
+    let code = held.code;
+    let ldi = held.ldi;
+    TakenLargeRows {
+        refusal: taken.refusal,
+        rows: LargeRows {
+            row: held.row,
+            op,
+            jp: code,
+            ldi,
         },
     }
 }
@@ -172,18 +135,15 @@ pub extern "C" fn bemulatsho_77c25_take_apart(word: u32) -> TakenLargeRows
 pub extern "C" fn bemulatsho_77c25_build(rows: LargeRows) -> Built
     ensures { λ r. ⌜ r ≡ builtLargeRows rows ⌝ }
 {
-    let row = rows.row;
     let op = rows.op;
-    let jp = rows.jp;
+    let code = rows.jp;
     let ldi = rows.ldi;
-    match row {
-        0 => word::build(true, Word::Op(op)),
-        1 => word::build(true, Word::Rt(op)),
-        2 => word::build(true, Word::JpCode(jp)),
-        3 => word::build(true, Word::Ldi(ldi)),
-        _ => Built {
-            refusal: 11,
-            bits: 0,
-        },
-    }
+    let every = AnyRows {
+        row: rows.row,
+        op,
+        jp: rows::no_jp(),
+        code,
+        ldi,
+    };
+    rows::build(true, every)
 }

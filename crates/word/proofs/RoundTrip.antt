@@ -188,6 +188,11 @@ module _ (large : Bool) (w : ℕ) (h : w < wordLimit (chip large)) where
       (λ e. rw e (row-fits (ldi large) w, row-topped large (ldi large) (ldi-below large) w 3 h e))))
       (four (bits (aligned large w) 22 21) (top-lt large w))
 
+-- what was taken apart fits
+pub taken-holds : (large : Bool) (w : ℕ) → w < wordLimit (chip large) → wordHolds large (takenApart large w .word) ≡ true
+unfolding takenApart
+taken-holds large w h = rw (lt-ltb w (wordLimit (chip large)) h) (word-back large w h .0)
+
 -- building what was taken apart gives the word
 pub taken-then-built : TakenThenBuilt
 unfolding takenApart built

@@ -7,17 +7,12 @@ ghost use Rattle.word.specs.Fields as spec;
 ghost use Rattle.word.specs.Word.{takenApart, jumpOf, builtOf, built};
 
 mod jumps;
-mod nothing;
 
 use device::Chip;
 pub use jumps::address;
 pub use jumps::branch;
 pub use jumps::condition;
 pub use jumps::turned_round;
-pub use nothing::no_code;
-pub use nothing::no_jp;
-pub use nothing::no_ldi;
-pub use nothing::no_op;
 
 // The fields of an OP or RT word.
 #[repr(C)]

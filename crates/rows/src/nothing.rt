@@ -1,11 +1,11 @@
 // The fields of a row that a word does not have: all 0.
 ghost use mathlib.Core.Path.{_≡_};
 ghost use mathlib.Core.Bool.{false};
 ghost use Rattle.word.specs.Fields.{opFields, jpFields, codeFields, ldiFields};
-use crate::CodeFields;
-use crate::JpFields;
-use crate::LdiFields;
-use crate::OpFields;
+use word::CodeFields;
+use word::JpFields;
+use word::LdiFields;
+use word::OpFields;
 
 pub fn no_op() -> OpFields
     ensures { λ r. ⌜ r ≡ opFields false 0 ⌝ }
