@@ -52,20 +52,18 @@ pub fn take_apart(chip: Chip, word: u32) -> Result<Word, u8> {
     }
 }
 
+/// An OP word's fields in the terms of the other side.
+macro_rules! op {
+    ($fields:expr, $($other:ident)::+) => {{
+        let f = $fields;
+        $($other)::+ { psel: f.psel, alu: f.alu, asl: f.asl, dpl: f.dpl, dphm: f.dphm, rpdcr: f.rpdcr, src: f.src, dst: f.dst }
+    }};
+}
+
 fn taken<Jp>(word: WordOf<Jp>, jp: impl Fn(Jp) -> Word) -> Word {
-    let op = |f: bemulatsho::OpFields| OpFields {
-        psel: f.psel,
-        alu: f.alu,
-        asl: f.asl,
-        dpl: f.dpl,
-        dphm: f.dphm,
-        rpdcr: f.rpdcr,
-        src: f.src,
-        dst: f.dst,
-    };
     match word {
-        WordOf::Op(f) => Word::Op(op(f)),
-        WordOf::Rt(f) => Word::Rt(op(f)),
+        WordOf::Op(f) => Word::Op(op!(f, OpFields)),
+        WordOf::Rt(f) => Word::Rt(op!(f, OpFields)),
         WordOf::Jp(f) => jp(f),
         WordOf::Ldi(f) => Word::Ldi(LdiFields { id: f.id, spare: f.spare, dst: f.dst }),
     }
@@ -83,19 +81,9 @@ pub fn build(chip: Chip, word: &Word) -> Result<u32, u8> {
 }
 
 fn no_jump<Jp>(word: Word) -> WordOf<Jp> {
-    let op = |f: OpFields| bemulatsho::OpFields {
-        psel: f.psel,
-        alu: f.alu,
-        asl: f.asl,
-        dpl: f.dpl,
-        dphm: f.dphm,
-        rpdcr: f.rpdcr,
-        src: f.src,
-        dst: f.dst,
-    };
     match word {
-        Word::Op(f) => WordOf::Op(op(f)),
-        Word::Rt(f) => WordOf::Rt(op(f)),
+        Word::Op(f) => WordOf::Op(op!(f, bemulatsho::OpFields)),
+        Word::Rt(f) => WordOf::Rt(op!(f, bemulatsho::OpFields)),
         Word::Ldi(f) => WordOf::Ldi(bemulatsho::LdiFields { id: f.id, spare: f.spare, dst: f.dst }),
         Word::Jp(_) | Word::JpCode(_) => unreachable!("a jump of the other chip"),
     }
