@@ -33,7 +33,7 @@ pub const JNZA: u8 = 4;
 pub const JNZB: u8 = 6;
 pub const JNOVA1: u8 = 12;
 pub const JSA0: u8 = 17;
-pub const JNSB0: u8 = 18;
+pub const JSB0: u8 = 19;
 pub const JDPL0: u8 = 24;
 
 /// Only a move.

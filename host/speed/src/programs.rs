@@ -1,7 +1,7 @@
 //! Three endless programs for either chip: the mixing loop, the manual's biquad called without end, and one that jumps more than it computes.
 
 use crate::assembly::{alu, call, jump, mov, when, Line, NOTHING};
-use crate::assembly::{ADC, ADD, BUS, INC, JDPL0, JNCA, JNCB, JNOVA1, JNSB0, JNZA, JNZB, JSA0, M, N, SHR1, XOR};
+use crate::assembly::{ADC, ADD, BUS, INC, JDPL0, JNCA, JNCB, JNOVA1, JNZA, JNZB, JSA0, JSB0, M, N, SHR1, XOR};
 use emulator::bus as src;
 use emulator::destination as dst;
 use emulator::{Chip, OpFields};
@@ -125,7 +125,7 @@ pub fn alone(chip: Chip) -> Vec<Program> {
     vec![
         same("LDI", Line::Ldi(0, dst::DP)),
         same("move", mov(dst::TR, src::K)),
-        same("jump untaken", when(JNSB0, 0)),
+        same("jump untaken", when(JSB0, 0)),
         same("word 0", Line::Op(NOTHING)),
         same("SHR1", alu(SHR1, 0)),
         same("ADD M", Line::Op(ADD_M)),

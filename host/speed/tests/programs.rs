@@ -1,6 +1,6 @@
-//! The programs' words: those of the 77P20 are the ones that were always measured, those of the 77C25 the same fields at that chip's places.
+//! The programs' words: those of the 77P20 as they are measured, those of the 77C25 the same fields at that chip's places.
 
-use emulator::{take_apart_on, Chip, CodeFields, JpFields, Word};
+use emulator::{event_on, take_apart_on, Chip, CodeFields, JpFields, Registers, Word};
 use speed::programs::{self, Program};
 
 const MIXING_LOOP: [u32; 15] = [
@@ -18,14 +18,14 @@ const JUMPS: [u32; 17] = [
     0x4b0000, 0x500000, 0x000000, 0x200000,
 ];
 
-const ALONE: [u32; 7] = [0x600004, 0x0000d3, 0x4a4000, 0x000000, 0x058000, 0x128000, 0x1281fb];
+const ALONE: [u32; 7] = [0x600004, 0x0000d3, 0x4a6000, 0x000000, 0x058000, 0x128000, 0x1281fb];
 
 fn every(chip: Chip) -> Vec<Program> {
     programs::loops(chip).into_iter().chain(programs::alone(chip)).collect()
 }
 
 #[test]
-fn the_words_of_the_77p20_are_those_of_before() {
+fn the_words_of_the_77p20_are_those_that_are_measured() {
     let words = |begin: &[u32], rest: u32| [begin, &vec![rest; 512 - begin.len()]].concat();
     let mut expected = vec![words(&MIXING_LOOP, 0), words(&BIQUAD, 0), words(&JUMPS, 0)];
     expected.extend(ALONE.map(|word| words(&[], word)));
@@ -57,5 +57,16 @@ fn the_words_of_the_77c25_have_the_same_fields() {
                 (small, large) => assert_eq!(small, large),
             }
         }
+    }
+}
+
+#[test]
+fn the_jump_untaken_is_not_taken() {
+    for chip in [Chip::Upd77p20, Chip::Upd77c25] {
+        let found = programs::alone(chip).into_iter().find(|program| program.name == "jump untaken");
+        let Program { words, rom, mut ram, .. } = found.expect("a jump");
+        let mut registers = Registers::default();
+        assert_eq!(event_on(chip, &mut registers, &words, &rom, &mut ram, 0, 3).number, 0);
+        assert_eq!(registers.pc, 3);
     }
 }
