@@ -1,4 +1,6 @@
 // One operation on one accumulator, with its six flags. Knows no machine.
+#![tactic(auto)]
+
 ghost use Rattle.std.specs.Prelude.{◌≡◌, ◌+◌, ◌%◌, ◌≤◌, pos, ◌+ℤ◌, ◌-ℤ◌};
 ghost use mir.Val.{bool_byte};
 ghost use Rattle.numbers.specs.Signed.{signed, kept16, floor_div};
@@ -6,7 +8,7 @@ ghost use Rattle.alu.specs.Flags.{carry_of, borrow_of, ov0_of, sum_flags};
 ghost use Rattle.alu.specs.Operations.{operation_of, plus, minus, other, plan_of};
 
 #[repr(C)]
-#[derive(Drop)]
+#[derive(Clone, Copy)]
 pub struct Flags {
     pub s1: bool,
     pub s0: bool,
@@ -17,13 +19,13 @@ pub struct Flags {
 }
 
 #[repr(C)]
-#[derive(Drop)]
+#[derive(Clone, Copy)]
 pub struct Accumulator {
     pub value: u16,
     pub flags: Flags,
 }
 
-#[derive(Drop)]
+#[derive(Clone, Copy)]
 pub enum Operation {
     None,
     Or,
@@ -44,7 +46,7 @@ pub enum Operation {
 }
 
 // What an operation makes of its inputs: nothing, a sum or a difference with its carry, or a result with its C.
-#[derive(Drop)]
+#[derive(Clone, Copy)]
 pub enum Plan {
     Keep,
     Plus(u16, bool),

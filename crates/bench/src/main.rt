@@ -1,5 +1,7 @@
 // The bench cases of 01 as words and events that the compiled machine runs: the bench staff's paper copy.
 // The crate `cases` has them as statements about the definitions.
+#![tactic(auto)]
+
 mod paper;
 
 use device::{Chip, RamPointer, Registers, Upd77p20};

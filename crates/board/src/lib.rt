@@ -1,5 +1,7 @@
 // The uPD77P20 of the desk's library: the machine in the caller's record, words taken apart and built, images and presets from texts and back, under C names.
 // include/bemulatsho.h is its header.
+#![tactic(auto)]
+
 ghost use Rattle.std.specs.Prelude.{◌≡◌, false};
 ghost use Rattle.device.specs.Registers.{fresh_registers};
 ghost use Rattle.machine.specs.Events.{event_done};
@@ -17,7 +19,7 @@ use word::{Built, JpFields, LdiFields, OpFields};
 // ---- events
 
 #[repr(C)]
-#[derive(Drop)]
+#[derive(Clone, Copy)]
 pub struct AfterCall {
     pub registers: Registers,
     pub reply: Reply,
@@ -91,7 +93,7 @@ pub extern "C" fn bemulatsho_version() -> u32
 
 // A word's row, and the fields of every row: those of the others are 0 when a word is taken apart, and not looked at when it is built.
 #[repr(C)]
-#[derive(Drop)]
+#[derive(Clone, Copy)]
 pub struct Rows {
     pub row: u8,
     pub op: OpFields,
@@ -100,7 +102,7 @@ pub struct Rows {
 }
 
 #[repr(C)]
-#[derive(Drop)]
+#[derive(Clone, Copy)]
 pub struct TakenRows {
     pub refusal: u8,
     pub rows: Rows,

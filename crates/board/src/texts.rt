@@ -23,7 +23,7 @@ pub extern "C" fn bemulatsho_load_data(text: &[u8], image: &mut [u16]) -> Loadin
 
 // What a line says as a record, and where in the line its data characters stand.
 #[repr(C)]
-#[derive(Drop)]
+#[derive(Clone, Copy)]
 pub struct Record {
     pub number: u8,
     pub kind: u8,

@@ -1,5 +1,7 @@
 // The uPD77C25 of the desk's library: the machine in the caller's record, and words taken apart and built, under C names. It is board's machine, told
 // that it is the larger chip; its archive is compiled for that chip alone. include/bemulatsho.h is its header.
+#![tactic(auto)]
+
 ghost use Rattle.std.specs.Prelude.{◌≡◌, true};
 ghost use Rattle.machine.specs.Events.{event_done};
 ghost use Rattle.machine.specs.Replies.{ending_in_place};
@@ -15,14 +17,14 @@ use word::{Built, CodeFields, LdiFields, OpFields};
 
 // The registers, and TRB, which this chip has besides.
 #[repr(C)]
-#[derive(Drop)]
+#[derive(Clone, Copy)]
 pub struct LargeRegisters {
     pub registers: Registers,
     pub trb: u16,
 }
 
 #[repr(C)]
-#[derive(Drop)]
+#[derive(Clone, Copy)]
 pub struct AfterLargeCall {
     pub registers: LargeRegisters,
     pub reply: Reply,
@@ -95,7 +97,7 @@ pub extern "C" fn bemulatsho_77c25_fresh_registers() -> LargeRegisters
 
 // A word's row, and the fields of every row: those of the others are 0 when a word is taken apart, and not looked at when it is built.
 #[repr(C)]
-#[derive(Drop)]
+#[derive(Clone, Copy)]
 pub struct LargeRows {
     pub row: u8,
     pub op: OpFields,
@@ -104,7 +106,7 @@ pub struct LargeRows {
 }
 
 #[repr(C)]
-#[derive(Drop)]
+#[derive(Clone, Copy)]
 pub struct TakenLargeRows {
     pub refusal: u8,
     pub rows: LargeRows,

@@ -1,1 +1,2 @@
 // The bench cases are in specs/ and proofs/ alone.
+#![tactic(auto)]

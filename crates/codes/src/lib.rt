@@ -1,9 +1,11 @@
 // The sixteen sources and the sixteen destinations, by name. Source 0 and destination 14 are none on the uPD77P20, where destination 0 is none as
 // well, and TRB on the uPD77C25.
+#![tactic(auto)]
+
 ghost use Rattle.std.specs.Prelude.{◌≡◌};
 ghost use Rattle.codes.specs.Codes.{source_of, destination_of};
 
-#[derive(Drop)]
+#[derive(Clone, Copy)]
 pub enum Source {
     NoneOrTrb,
     A,
@@ -23,7 +25,7 @@ pub enum Source {
     Mem,
 }
 
-#[derive(Drop)]
+#[derive(Clone, Copy)]
 pub enum Destination {
     None,
     A,

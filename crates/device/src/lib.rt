@@ -1,4 +1,6 @@
 // The chips: their sizes, their three pointers, their register record.
+#![tactic(auto)]
+
 mod lent;
 mod pointers;
 mod registers;

@@ -8,17 +8,17 @@ use crate::sizes::{Chip, Upd77c25, Upd77p20};
 
 // Counts instruction words: PC, a stack cell.
 #[repr(C)]
-#[derive(Drop)]
+#[derive(Clone, Copy)]
 pub struct InstructionAddress(pub u16);
 
 // Points at a RAM cell: DP, a row from bit 4 up and a place in it.
 #[repr(C)]
-#[derive(Drop)]
+#[derive(Clone, Copy)]
 pub struct RamPointer(pub u16);
 
 // Points at a data ROM cell: RP.
 #[repr(C)]
-#[derive(Drop)]
+#[derive(Clone, Copy)]
 pub struct RomPointer(pub u16);
 
 impl InstructionAddress {

@@ -9,7 +9,7 @@ use alu::Flags;
 
 // The six flags of A, and again of B.
 #[repr(C)]
-#[derive(Drop)]
+#[derive(Clone, Copy)]
 pub struct BothFlags {
     pub a: Flags,
     pub b: Flags,
@@ -17,7 +17,7 @@ pub struct BothFlags {
 
 // The order of the fields was found by counting the instructions of a run (docs/DECISIONS.md); no proof depends on it.
 #[repr(C)]
-#[derive(Drop)]
+#[derive(Clone, Copy)]
 pub struct Registers {
     pub pc: InstructionAddress,
     pub stack0: InstructionAddress,

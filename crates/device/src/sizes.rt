@@ -4,14 +4,14 @@
 ghost use Rattle.std.specs.Prelude.{◌≡◌};
 ghost use Rattle.device.specs.Device.{chip, lengths_fit, word_limit, cell_fits, cell_value};
 
-#[derive(Drop)]
+#[derive(Clone, Copy)]
 pub struct Upd77p20 {}
 
-#[derive(Drop)]
+#[derive(Clone, Copy)]
 pub struct Upd77c25 {}
 
 // Either of them.
-#[derive(Drop)]
+#[derive(Clone, Copy)]
 pub struct Chip {}
 
 impl Upd77p20 {

@@ -1,4 +1,6 @@
 // What each event other than a run does to the registers, and which kinds and values there are. What is refused otherwise is said in `machine`.
+#![tactic(auto)]
+
 ghost use Rattle.std.specs.Prelude.{◌≡◌};
 ghost use Rattle.events.specs.Events as spec;
 

@@ -1,4 +1,6 @@
 // A text of Intel HEX into a lent image, whole or not at all.
+#![tactic(auto)]
+
 mod digits;
 mod filling;
 mod record;

@@ -6,7 +6,7 @@ use crate::digits::{all_digits, byte_at, sum};
 
 // What a record says of itself: its refusal or 0, its type, the address of its first byte, and how many bytes it has.
 #[repr(C)]
-#[derive(Drop)]
+#[derive(Clone, Copy)]
 pub struct RecordHead {
     pub number: u8,
     pub kind: u8,

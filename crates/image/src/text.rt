@@ -10,7 +10,7 @@ use crate::record::{data_characters, record_head};
 
 // How reading a text ended: the refusal or 0, and the line that decided, counted from 1 (0 if none was looked at).
 #[repr(C)]
-#[derive(Drop)]
+#[derive(Clone, Copy)]
 pub struct Loading {
     pub number: u8,
     pub line: usize,

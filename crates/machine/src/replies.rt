@@ -3,7 +3,7 @@ use device::Registers;
 
 // The reply's number, words done and value, and the registers and TRB after the call.
 #[repr(C)]
-#[derive(Drop)]
+#[derive(Clone, Copy)]
 pub struct AfterEvent {
     pub number: u8,
     pub words: u16,
@@ -14,7 +14,7 @@ pub struct AfterEvent {
 
 // As the desk gives it.
 #[repr(C)]
-#[derive(Drop)]
+#[derive(Clone, Copy)]
 pub struct Event {
     pub kind: u32,
     pub value: u32,
@@ -22,7 +22,7 @@ pub struct Event {
 
 // What the desk is told, apart from the registers.
 #[repr(C)]
-#[derive(Drop)]
+#[derive(Clone, Copy)]
 pub struct Reply {
     pub number: u8,
     pub words: u16,

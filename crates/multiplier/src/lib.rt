@@ -1,4 +1,6 @@
 // The signed product of K and L, and its two halves M and N. Knows no machine.
+#![tactic(auto)]
+
 ghost use Rattle.std.specs.Prelude.{◌≡◌};
 ghost use Rattle.multiplier.specs.Product.{product, m_of, n_of};
 

@@ -1,4 +1,6 @@
 // Signed values of 16-bit registers, and the order of their bits. Knows no chip.
+#![tactic(auto)]
+
 ghost use Rattle.std.specs.Prelude.{◌≡◌};
 ghost use Rattle.numbers.specs.Signed.{signed, kept16};
 ghost use Rattle.numbers.specs.Reversal.{reversed, reversed16};

@@ -8,7 +8,7 @@ use device::Upd77p20;
 
 // How a text was written: 0 and its length, or the refusal and 0.
 #[repr(C)]
-#[derive(Drop)]
+#[derive(Clone, Copy)]
 pub struct Writing {
     pub number: u8,
     pub length: usize,

@@ -1,4 +1,6 @@
 // A word as C holds it: its row, and a place for the fields of every row of either chip.
+#![tactic(auto)]
+
 ghost use Rattle.std.specs.Prelude.{◌≡◌};
 ghost use Rattle.rows.specs.Rows.{rows_of, jump_in, taken_any_rows, built_any_rows};
 
@@ -9,7 +11,7 @@ use nothing::{no_ldi, no_op};
 use word::{Built, CodeFields, JpFields, LdiFields, OpFields, Word};
 
 // The fields of the rows that a word does not have are 0 when it is taken apart, and not looked at when it is built.
-#[derive(Drop)]
+#[derive(Clone, Copy)]
 pub struct AnyRows {
     pub row: u8,
     pub op: OpFields,
@@ -18,7 +20,7 @@ pub struct AnyRows {
     pub ldi: LdiFields,
 }
 
-#[derive(Drop)]
+#[derive(Clone, Copy)]
 pub struct TakenAnyRows {
     pub refusal: u8,
     pub rows: AnyRows,

@@ -1,5 +1,7 @@
 // The stages of an OP or RT word: what goes on the bus, what the ALU does, where the bus goes, how the pointers move.
 // Each is defined for every input; which words are refused is said elsewhere.
+#![tactic(auto)]
+
 mod accumulators;
 mod bus;
 mod destinations;

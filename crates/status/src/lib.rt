@@ -1,4 +1,6 @@
 // SR: its bits, and how it is loaded. Knows no other register.
+#![tactic(auto)]
+
 ghost use Rattle.std.specs.Prelude.{◌≡◌};
 ghost use Rattle.status.specs.Status as spec;
 

@@ -1,4 +1,6 @@
 // An instruction word taken apart into the fields of its row, and built from them again.
+#![tactic(auto)]
+
 ghost use Rattle.std.specs.Prelude.{◌≡◌, cond, ◌+◌, ◌*◌, ◌^◌, ◌≤◌, ◌<◌};
 ghost use Rattle.numbers.specs.Bits as place;
 ghost use Rattle.word.specs.Fields as spec;
@@ -11,7 +13,7 @@ pub use jumps::{address, branch, condition, turned_round};
 
 // The fields of an OP or RT word.
 #[repr(C)]
-#[derive(Drop)]
+#[derive(Clone, Copy)]
 pub struct OpFields {
     pub psel: u8,
     pub alu: u8,
@@ -25,7 +27,7 @@ pub struct OpFields {
 
 // The fields of a JP word of the uPD77P20.
 #[repr(C)]
-#[derive(Drop)]
+#[derive(Clone, Copy)]
 pub struct JpFields {
     pub brch: u8,
     pub cnd: u8,
@@ -35,7 +37,7 @@ pub struct JpFields {
 
 // The fields of a JP word of the uPD77C25, where jump and condition are one code.
 #[repr(C)]
-#[derive(Drop)]
+#[derive(Clone, Copy)]
 pub struct CodeFields {
     pub code: u16,
     pub na: u16,
@@ -44,14 +46,14 @@ pub struct CodeFields {
 
 // The fields of an LDI word. ID has all 16 bits of its type, so that none is too wide.
 #[repr(C)]
-#[derive(Drop)]
+#[derive(Clone, Copy)]
 pub struct LdiFields {
     pub id: u16,
     pub spare: u8,
     pub dst: u8,
 }
 
-#[derive(Drop)]
+#[derive(Clone, Copy)]
 pub enum Word {
     Op(OpFields),
     Rt(OpFields),
@@ -60,14 +62,14 @@ pub enum Word {
     Ldi(LdiFields),
 }
 
-#[derive(Drop)]
+#[derive(Clone, Copy)]
 pub struct Taken {
     pub refusal: u8,
     pub word: Word,
 }
 
 #[repr(C)]
-#[derive(Drop)]
+#[derive(Clone, Copy)]
 pub struct Built {
     pub refusal: u8,
     pub bits: u32,

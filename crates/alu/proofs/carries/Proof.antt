@@ -10,5 +10,5 @@ returns c =
     let s = c.args in
     by-outcomes 65536 (s.x + s.y + s.k) (λ h. omega (arith, leb-true, ltb-true)) (λ h. omega (arith, leb-false, ltb-false))
 
-pub carries-spec : {M : Type 1} → statement M
-carries-spec = tie.close (tie.spec (λ c. search rules) (λ c. search rules) returns)
+pub carries_spec : {M : Type 1} → statement M
+carries_spec = tie.close (tie.spec (λ c. search rules) (λ c. search rules) returns)

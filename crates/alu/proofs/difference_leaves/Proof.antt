@@ -11,7 +11,7 @@ returns c =
     let a = c.before.before.args in
     rw (c.biased2.ensures, c.before.biased.ensures) (sym (leaves-biased _ _ (difference-biased a.x a.y a.k c.before.before.requires)))
 
-pub difference-leaves-spec : {M : Type 1} → statement M
-difference-leaves-spec =
+pub difference_leaves_spec : {M : Type 1} → statement M
+difference_leaves_spec =
     tie.close (tie.spec (λ c κs. search rules) (λ c. search rules) (λ c κs. search rules) (λ c. search rules)
     (λ c. search rules) returns)

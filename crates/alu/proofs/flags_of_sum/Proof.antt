@@ -34,5 +34,5 @@ returns c =
     let ov0 = c.before.args.ov0 in
     λ i. record { s1 = s1-straight before.ov1 before.s1 (s0_of result) i; s0 = s0_of result; c = c.before.args.c; z = z_of result; ov1 = ov1-straight before.ov1 before.s1 (s0_of result) ov0 i; ov0 = ov0 }
 
-pub flags-of-sum-spec : {M : Type 1} → statement M
-flags-of-sum-spec = tie.close (tie.spec returns)
+pub flags_of_sum_spec : {M : Type 1} → statement M
+flags_of_sum_spec = tie.close (tie.spec returns)

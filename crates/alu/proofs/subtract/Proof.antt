@@ -21,7 +21,7 @@ returns c =
     let e : c.before.before.before.wrapping-sub-u162.result ≡ (x + 65536 - (y + k)) % 65536 = omega arith in
     rw (c.flags-of-sum.ensures, c.before.difference-leaves.ensures, c.before.before.borrows.ensures, e)
 
-pub subtract-spec : {M : Type 1} → statement M
-subtract-spec =
+pub subtract_spec : {M : Type 1} → statement M
+subtract_spec =
     tie.close (tie.spec (λ c. search rules) (λ c κs. search rules) (λ c κs. search rules) (λ c κs. search rules)
     difference-leaves-requires (λ c κs. search rules) returns)

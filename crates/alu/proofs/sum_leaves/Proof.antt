@@ -11,6 +11,6 @@ returns c =
     let a = c.before.before.args in
     rw (c.biased2.ensures, c.before.biased.ensures) (sym (leaves-biased _ _ (sum-biased a.x a.y a.k)))
 
-pub sum-leaves-spec : {M : Type 1} → statement M
-sum-leaves-spec =
+pub sum_leaves_spec : {M : Type 1} → statement M
+sum_leaves_spec =
     tie.close (tie.spec (λ c κs. search rules) (λ c κs. search rules) (λ c. search rules) (λ c. search rules) returns)

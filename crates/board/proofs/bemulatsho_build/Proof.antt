@@ -9,5 +9,5 @@ returns : tie.Need-returns
 unfolding built_rows
 returns c = rw (c.build.ensures, c.before.no_code.ensures)
 
-pub bemulatsho-build-spec : {M : Type 1} → statement M
-bemulatsho-build-spec = tie.close (tie.spec (λ c κs. search rules) (λ c κs. search rules) returns)
+pub bemulatsho_build_spec : {M : Type 1} → statement M
+bemulatsho_build_spec = tie.close (tie.spec (λ c κs. search rules) (λ c κs. search rules) returns)

@@ -10,5 +10,5 @@ returns : tie.Need-returns
 unfolding taken_rows
 returns c = ap small_taken c.before.before.before.before.take-apart.ensures
 
-pub bemulatsho-take-apart-spec : {M : Type 1} → statement M
-bemulatsho-take-apart-spec = tie.close (tie.spec (λ c κs. search rules) returns)
+pub bemulatsho_take_apart_spec : {M : Type 1} → statement M
+bemulatsho_take_apart_spec = tie.close (tie.spec (λ c κs. search rules) returns)

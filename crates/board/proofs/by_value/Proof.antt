@@ -23,5 +23,5 @@ returns c =
     without-trb (event_done false s.registers 0 s.program.now s.rom.now s.ram.now s.event.kind s.event.value) c.before.before.before.event.ensures
     (ap (λ (e : Ending). e.trb) (no-trb s.registers 0 0 s.program.now s.rom.now s.ram.now s.event.kind s.event.value))
 
-pub by-value-spec : {M : Type 1} → statement M
-by-value-spec = tie.close (tie.spec (λ c κs. search rules) (λ c. search rules) returns)
+pub by_value_spec : {M : Type 1} → statement M
+by_value_spec = tie.close (tie.spec (λ c κs. search rules) (λ c. search rules) returns)

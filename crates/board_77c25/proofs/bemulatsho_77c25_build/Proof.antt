@@ -9,5 +9,5 @@ returns : tie.Need-returns
 unfolding built_large_rows
 returns c = rw (c.build.ensures, c.before.no-jp.ensures)
 
-pub bemulatsho-77c25-build-spec : {M : Type 1} → statement M
-bemulatsho-77c25-build-spec = tie.close (tie.spec (λ c κs. search rules) (λ c κs. search rules) returns)
+pub bemulatsho_77c25_build_spec : {M : Type 1} → statement M
+bemulatsho_77c25_build_spec = tie.close (tie.spec (λ c κs. search rules) (λ c κs. search rules) returns)

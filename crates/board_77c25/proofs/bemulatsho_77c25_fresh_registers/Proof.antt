@@ -9,5 +9,5 @@ returns : tie.Need-returns
 unfolding fresh_large_registers
 returns c = rw c.fresh-registers.ensures
 
-pub bemulatsho-77c25-fresh-registers-spec : {M : Type 1} → statement M
-bemulatsho-77c25-fresh-registers-spec = tie.close (tie.spec (λ c κs. search rules) returns)
+pub bemulatsho_77c25_fresh_registers_spec : {M : Type 1} → statement M
+bemulatsho_77c25_fresh_registers_spec = tie.close (tie.spec (λ c κs. search rules) returns)

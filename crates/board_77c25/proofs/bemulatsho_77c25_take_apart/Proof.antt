@@ -10,5 +10,5 @@ returns : tie.Need-returns
 unfolding taken_large_rows
 returns c = ap large_taken c.before.before.before.before.take-apart.ensures
 
-pub bemulatsho-77c25-take-apart-spec : {M : Type 1} → statement M
-bemulatsho-77c25-take-apart-spec = tie.close (tie.spec (λ c κs. search rules) returns)
+pub bemulatsho_77c25_take_apart_spec : {M : Type 1} → statement M
+bemulatsho_77c25_take_apart_spec = tie.close (tie.spec (λ c κs. search rules) returns)

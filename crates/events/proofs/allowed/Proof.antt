@@ -34,6 +34,6 @@ returns-8 c = rw c.match.keys8
 returns-9 : tie.Need-returns-9
 returns-9 c = let v = c.before.args.value in past (leb v 65535 ∷ eqb v 0 ∷ leb v 255 ∷ eqb v 0 ∷ leb v 65535 ∷ eqb v 0 ∷ eqb v 0 ∷ eqb v 0 ∷ []) false c.before.args.kind c.match.rest
 
-pub allowed-spec : {M : Type 1} → statement M
-allowed-spec =
+pub allowed_spec : {M : Type 1} → statement M
+allowed_spec =
     tie.close (tie.spec returns returns-2 returns-3 returns-4 returns-5 returns-6 returns-7 returns-8 returns-9)

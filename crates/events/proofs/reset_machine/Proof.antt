@@ -10,6 +10,6 @@ returns : tie.Need-returns
 unfolding reset fresh_registers
 returns c = rw c.before.before.fresh-registers.ensures
 
-pub reset-machine-spec : {M : Type 1} → statement M
-reset-machine-spec =
+pub reset_machine_spec : {M : Type 1} → statement M
+reset_machine_spec =
     tie.close (tie.spec (λ c κs. search rules) returns)

@@ -32,5 +32,5 @@ mul-result c = rw (read c) (fits c)
 returns : tie.Need-returns
 returns c = rw (read c) (back _ (fits c))
 
-pub multiply-spec : {M : Type 1} → statement M
-multiply-spec = tie.close (tie.spec (λ c κs. search rules) (λ c κs. search rules) mul-result returns)
+pub multiply_spec : {M : Type 1} → statement M
+multiply_spec = tie.close (tie.spec (λ c κs. search rules) (λ c κs. search rules) mul-result returns)

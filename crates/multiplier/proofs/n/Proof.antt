@@ -18,5 +18,5 @@ returns c =
     let h : SFits w32 z = record { sfits = c.before.multiply.type-inv } in
     rw (c.keep16.ensures, back z h, c.before.multiply.ensures) (ap (λ n. n * 2) (low-15 (product c.before.before.args.k c.before.before.args.l)))
 
-pub n-spec : {M : Type 1} → statement M
-n-spec = tie.close (tie.spec (λ c κs. search rules) (λ c κs. search rules) (λ c. search rules) returns)
+pub n_spec : {M : Type 1} → statement M
+n_spec = tie.close (tie.spec (λ c κs. search rules) (λ c κs. search rules) (λ c. search rules) returns)

@@ -30,18 +30,18 @@ module _ (z : ℤ) (h : SFits w32 z) where
   whole : rd (rd z -ℤ rd (rd (shr_z (rd z) 65536) *ℤ pos 65536)) ≡ pos (kept16 z)
   whole = rw left (to_z_pos w32 (kept16 z) (omega (arith, kept16-lt z)))
 
-mul-result : tie.Need-overflow-mul-result
+mul-result : tie.Need-overflow_mul-result
 mul-result c = subst (λ q. SFits w32 (q *ℤ pos 65536)) (sym (shr-back c.args.z 65536 c.ranges.z)) (multiple-fits c.args.z c.ranges.z)
 
-sub-result : tie.Need-overflow-sub-result
+sub-result : tie.Need-overflow_sub-result
 sub-result c = rw (left c.args.z c.ranges.z) (record { sfits = omega (arith, kept16-lt c.args.z) })
 
-cast-result : tie.Need-overflow-cast-result
+cast-result : tie.Need-overflow_cast-result
 cast-result c = rw (whole c.args.z c.ranges.z) (tt, record { fits = omega (arith, kept16-lt c.args.z) })
 
 returns : tie.Need-returns
 returns c = ap nat_abs (whole c.args.z c.ranges.z)
 
-pub keep16-spec : {M : Type 1} → statement M
-keep16-spec =
+pub keep16_spec : {M : Type 1} → statement M
+keep16_spec =
     tie.close (tie.spec mul-result sub-result cast-result returns)

@@ -11,8 +11,8 @@ returns : tie.Need-returns
 unfolding reversed
 returns c = simp div-div-eq-div-mul (omega arith)
 
-pub reverse-byte-spec : {M : Type 1} → statement M
-reverse-byte-spec =
+pub reverse_byte_spec : {M : Type 1} → statement M
+reverse_byte_spec =
     tie.close (tie.spec (λ c. search rules) (λ c. search rules) (λ c. search rules) (λ c. search rules)
     (λ c. search rules) (λ c. search rules) (λ c. search rules) (λ c. search rules) (λ c. search rules)
     (λ c. search rules) (λ c. search rules) (λ c. search rules) (λ c. search rules) (λ c. search rules) returns)

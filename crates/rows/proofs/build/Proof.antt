@@ -26,7 +26,7 @@ returns-5 : tie.Need-returns-5
 unfolding built_any_rows
 returns-5 c = let s = c.before.before.before.args in past (built_by_row s.large s.rows) too_wide s.rows.row c.match.rest
 
-pub build-spec : {M : Type 1} → statement M
-build-spec =
+pub build_spec : {M : Type 1} → statement M
+build_spec =
     tie.close (tie.spec (λ c κs. search rules) (λ c κs. search rules) (λ c κs. search rules) (λ c κs. search rules) (λ c κs. search rules)
     returns returns-2 returns-3 returns-4 returns-5)

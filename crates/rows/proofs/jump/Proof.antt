@@ -9,5 +9,5 @@ returns c = rw c.if1.true
 returns-2 : tie.Need-returns-2
 returns-2 c = rw c.if1.false
 
-pub jump-spec : {M : Type 1} → statement M
-jump-spec = tie.close (tie.spec returns returns-2)
+pub jump_spec : {M : Type 1} → statement M
+jump_spec = tie.close (tie.spec returns returns-2)

@@ -19,7 +19,7 @@ returns-4 c = rw (c.before.word4.given.1, c.before.before.before.no-ldi.ensures,
 returns-5 : tie.Need-returns-5
 returns-5 c = rw (c.before.word5.given.1, c.before.before.before.before.no_code.ensures, c.before.before.before.before.before.no-jp.ensures, c.before.before.before.before.before.before.no-op.ensures)
 
-pub rows-of-spec : {M : Type 1} → statement M
-rows-of-spec =
+pub rows_of_spec : {M : Type 1} → statement M
+rows_of_spec =
     tie.close (tie.spec (λ c κs. search rules) (λ c κs. search rules) (λ c κs. search rules) (λ c κs. search rules) (λ c. search rules)
     (λ c. search rules) (λ c. search rules) (λ c. search rules) (λ c. search rules) returns returns-2 returns-3 returns-4 returns-5)

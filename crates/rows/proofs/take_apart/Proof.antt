@@ -9,5 +9,5 @@ returns : tie.Need-returns
 unfolding taken_any_rows
 returns c = rw (c.rows_of_lem.ensures, ← c.before.take-apart.ensures)
 
-pub take-apart-spec : {M : Type 1} → statement M
-take-apart-spec = tie.close (tie.spec (λ c κs. search rules) (λ c κs. search rules) returns)
+pub take_apart_spec : {M : Type 1} → statement M
+take_apart_spec = tie.close (tie.spec (λ c κs. search rules) (λ c κs. search rules) returns)

@@ -10,5 +10,5 @@ returns c = rw c.if1.true
 returns-2 : tie.Need-returns-2
 returns-2 c = rw c.if1.false
 
-pub aligned-spec : {M : Type 1} → statement M
-aligned-spec = tie.close (tie.spec returns returns-2)
+pub aligned_spec : {M : Type 1} → statement M
+aligned_spec = tie.close (tie.spec returns returns-2)

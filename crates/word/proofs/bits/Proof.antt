@@ -37,7 +37,7 @@ rem-result c = let s = c.before.before.before.args in rw (one_shifted (s.high + 
 returns-4 : tie.Need-returns-4
 returns-4 c = let s = c.before.before.before.args in rw (one_shifted (s.high + 1 - s.low) (omega arith))
 
-pub bits-spec : {M : Type 1} → statement M
-bits-spec =
+pub bits_spec : {M : Type 1} → statement M
+bits_spec =
     tie.close (tie.spec returns returns-2 (λ c. search rules) returns-3 (λ c. search rules) (λ c. search rules)
     (λ c. search rules) (λ c. search rules) rem-result returns-4)

@@ -30,8 +30,8 @@ unfolding built word_holds word_bits
 returns-5 c =
     rw (c.before.before.before.before.before.before.word5.given.1, c.built-of5.ensures, c.before.ldi-bits.ensures.0, c.before.before.raised5.ensures.0, c.before.before.before.at5.ensures, c.before.before.before.before.ldi-holds.ensures)
 
-pub build-spec : {M : Type 1} → statement M
-build-spec =
+pub build_spec : {M : Type 1} → statement M
+build_spec =
     tie.close (tie.spec (λ c. search rules) (λ c κs. search rules) (λ c κs. search rules) (λ c κs. search rules)
     (λ c κs. search rules) (λ c. search rules) (λ c κs. search rules) (λ c. search rules) (λ c κs. search rules)
     (λ c κs. search rules) (λ c κs. search rules) (λ c κs. search rules) (λ c. search rules) (λ c κs. search rules)

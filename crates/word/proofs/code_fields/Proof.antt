@@ -12,7 +12,7 @@ returns c =
       c.before.before.bits.ensures,
     )
 
-pub code-fields-spec : {M : Type 1} → statement M
-code-fields-spec =
+pub code_fields_spec : {M : Type 1} → statement M
+code_fields_spec =
     tie.close (tie.spec (λ c κs. search rules) (λ c. search rules) (λ c κs. search rules) (λ c. search rules)
     (λ c κs. search rules) (λ c. search rules) returns)

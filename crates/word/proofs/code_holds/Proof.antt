@@ -12,7 +12,7 @@ returns c =
       c.before.before.before.holds.ensures,
     )
 
-pub code-holds-spec : {M : Type 1} → statement M
-code-holds-spec =
+pub code_holds_spec : {M : Type 1} → statement M
+code_holds_spec =
     tie.close (tie.spec (λ c κs. search rules) (λ c κs. search rules) (λ c. search rules) (λ c κs. search rules)
     returns)

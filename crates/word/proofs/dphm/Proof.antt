@@ -10,7 +10,7 @@ returns c = rw (c.before.if1.true, c.bits.ensures)
 returns-2 : tie.Need-returns-2
 returns-2 c = rw (c.before.if1.false, c.bits2.ensures)
 
-pub dphm-spec : {M : Type 1} → statement M
-dphm-spec =
+pub dphm_spec : {M : Type 1} → statement M
+dphm_spec =
     tie.close (tie.spec (λ c κs. search rules) (λ c. search rules) (λ c κs. search rules) (λ c. search rules) returns
     returns-2)

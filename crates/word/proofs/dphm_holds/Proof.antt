@@ -10,5 +10,5 @@ returns c = rw (c.before.if1.true, c.holds.ensures)
 returns-2 : tie.Need-returns-2
 returns-2 c = rw (c.before.if1.false, c.holds2.ensures)
 
-pub dphm-holds-spec : {M : Type 1} → statement M
-dphm-holds-spec = tie.close (tie.spec (λ c κs. search rules) (λ c κs. search rules) returns returns-2)
+pub dphm_holds_spec : {M : Type 1} → statement M
+dphm_holds_spec = tie.close (tie.spec (λ c κs. search rules) (λ c κs. search rules) returns returns-2)

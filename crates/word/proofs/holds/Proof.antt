@@ -10,5 +10,5 @@ use Rattle.word.proofs.holds.Tie as tie
 returns : tie.Need-returns
 returns c = rw (one_shifted (c.args.high + 1 - c.args.low) (omega arith))
 
-pub holds-spec : {M : Type 1} → statement M
-holds-spec = tie.close (tie.spec (λ c. search rules) (λ c. search rules) (λ c. search rules) returns)
+pub holds_spec : {M : Type 1} → statement M
+holds_spec = tie.close (tie.spec (λ c. search rules) (λ c. search rules) (λ c. search rules) returns)

@@ -8,7 +8,7 @@ returns : tie.Need-returns
 returns c =
     rw (c.bits4.ensures, c.before.bits3.ensures, c.before.before.bits2.ensures, c.before.before.before.bits.ensures)
 
-pub jp-fields-spec : {M : Type 1} → statement M
-jp-fields-spec =
+pub jp_fields_spec : {M : Type 1} → statement M
+jp_fields_spec =
     tie.close (tie.spec (λ c κs. search rules) (λ c. search rules) (λ c κs. search rules) (λ c. search rules)
     (λ c κs. search rules) (λ c. search rules) (λ c κs. search rules) (λ c. search rules) returns)

@@ -13,7 +13,7 @@ returns c =
       c.before.before.before.before.before.holds.ensures,
     )
 
-pub jp-holds-spec : {M : Type 1} → statement M
-jp-holds-spec =
+pub jp_holds_spec : {M : Type 1} → statement M
+jp_holds_spec =
     tie.close (tie.spec (λ c. search rules) (λ c κs. search rules) (λ c. search rules) (λ c κs. search rules)
     (λ c κs. search rules) (λ c. search rules) (λ c κs. search rules) returns)

@@ -8,7 +8,7 @@ use Rattle.word.proofs.ldi_bits.Tie as tie
 returns : tie.Need-returns
 returns c = (rw (c.before.before.before.raised.ensures.0, c.before.before.before.before.at.ensures, c.before.at2.ensures), omega arith)
 
-pub ldi-bits-spec : {M : Type 1} → statement M
-ldi-bits-spec =
+pub ldi_bits_spec : {M : Type 1} → statement M
+ldi_bits_spec =
     tie.close (tie.spec (λ c. search rules) (λ c κs. search rules) (λ c κs. search rules) (λ c. search rules)
     (λ c κs. search rules) (λ c. search rules) (λ c. search rules) (λ c. search rules) returns)

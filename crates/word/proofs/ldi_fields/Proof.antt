@@ -13,7 +13,7 @@ returns c =
       c.before.before.before.aligned.ensures,
     )
 
-pub ldi-fields-spec : {M : Type 1} → statement M
-ldi-fields-spec =
+pub ldi_fields_spec : {M : Type 1} → statement M
+ldi_fields_spec =
     tie.close (tie.spec (λ c κs. search rules) (λ c κs. search rules) (λ c. search rules) (λ c κs. search rules)
     (λ c κs. search rules) (λ c. search rules) returns)

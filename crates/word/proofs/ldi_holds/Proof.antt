@@ -12,7 +12,7 @@ returns c =
       c.before.before.before.holds.ensures,
     )
 
-pub ldi-holds-spec : {M : Type 1} → statement M
-ldi-holds-spec =
+pub ldi_holds_spec : {M : Type 1} → statement M
+ldi_holds_spec =
     tie.close (tie.spec (λ c κs. search rules) (λ c κs. search rules) (λ c. search rules) (λ c κs. search rules)
     returns)

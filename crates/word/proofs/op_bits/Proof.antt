@@ -21,8 +21,8 @@ returns c = (
   omega arith,
 )
 
-pub op-bits-spec : {M : Type 1} → statement M
-op-bits-spec =
+pub op_bits_spec : {M : Type 1} → statement M
+op_bits_spec =
     tie.close (tie.spec (λ c. search rules) (λ c κs. search rules) (λ c. search rules) (λ c κs. search rules)
     (λ c. search rules) (λ c. search rules) (λ c κs. search rules) (λ c. search rules) (λ c. search rules)
     (λ c κs. search rules) (λ c. search rules) (λ c. search rules) (λ c κs. search rules) (λ c. search rules)

@@ -18,8 +18,8 @@ returns c =
       c.before.before.before.before.before.before.before.before.aligned.ensures,
     )
 
-pub op-fields-spec : {M : Type 1} → statement M
-op-fields-spec =
+pub op_fields_spec : {M : Type 1} → statement M
+op_fields_spec =
     tie.close (tie.spec (λ c κs. search rules) (λ c κs. search rules) (λ c. search rules) (λ c κs. search rules)
     (λ c. search rules) (λ c κs. search rules) (λ c. search rules) (λ c κs. search rules) (λ c. search rules)
     (λ c κs. search rules) (λ c κs. search rules) (λ c. search rules) (λ c κs. search rules) (λ c. search rules)

@@ -17,8 +17,8 @@ returns c =
       c.before.before.before.before.before.before.before.before.before.before.before.before.before.holds.ensures,
     )
 
-pub op-holds-spec : {M : Type 1} → statement M
-op-holds-spec =
+pub op_holds_spec : {M : Type 1} → statement M
+op_holds_spec =
     tie.close (tie.spec (λ c. search rules) (λ c κs. search rules) (λ c. search rules) (λ c κs. search rules)
     (λ c. search rules) (λ c κs. search rules) (λ c. search rules) (λ c κs. search rules) (λ c κs. search rules)
     (λ c. search rules) (λ c κs. search rules) (λ c. search rules) (λ c κs. search rules) (λ c. search rules)

@@ -11,5 +11,5 @@ returns c = rw c.if1.true (omega arith)
 returns-2 : tie.Need-returns-2
 returns-2 c = rw c.if1.false (omega arith)
 
-pub raised-spec : {M : Type 1} → statement M
-raised-spec = tie.close (tie.spec (λ c. search rules) returns returns-2)
+pub raised_spec : {M : Type 1} → statement M
+raised_spec = tie.close (tie.spec (λ c. search rules) returns returns-2)

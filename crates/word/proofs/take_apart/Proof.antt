@@ -45,8 +45,8 @@ returns-5 c =
     let s = c.before.before.before.args in
     rw (le-ltb s.w (word_limit (chip s.large)) (rw (← c.before.before.word-limit.ensures) c.before.if1.false), c.op-fields3.ensures)
 
-pub take-apart-spec : {M : Type 1} → statement M
-take-apart-spec =
+pub take_apart_spec : {M : Type 1} → statement M
+take_apart_spec =
     tie.close (tie.spec (λ c κs. search rules) (λ c κs. search rules) (λ c κs. search rules) (λ c κs. search rules)
     (λ c κs. search rules) (λ c κs. search rules) (λ c κs. search rules) (λ c κs. search rules) returns returns-2
     returns-3 returns-4 returns-5)

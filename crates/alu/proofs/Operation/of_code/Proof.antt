@@ -10,8 +10,8 @@ use Rattle.alu.proofs.Operation.of_code.Tie as tie
 returns-17 : tie.Need-returns-17
 returns-17 c = past operations None c.before.args.code c.match.rest
 
-pub of-code-spec : {M : Type 1} → statement M
-of-code-spec =
+pub of_code_spec : {M : Type 1} → statement M
+of_code_spec =
     tie.close (tie.spec (λ c. search rules) (λ c. search rules) (λ c. search rules) (λ c. search rules)
     (λ c. search rules) (λ c. search rules) (λ c. search rules) (λ c. search rules) (λ c. search rules)
     (λ c. search rules) (λ c. search rules) (λ c. search rules) (λ c. search rules) (λ c. search rules)

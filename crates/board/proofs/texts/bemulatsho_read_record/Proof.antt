@@ -10,5 +10,5 @@ returns : tie.Need-returns
 unfolding record_in_line data_start
 returns c = rw (c.data-start.ensures, c.before.record-head.ensures)
 
-pub bemulatsho-read-record-spec : {M : Type 1} → statement M
-bemulatsho-read-record-spec = tie.close (tie.spec (λ c κs. search rules) (λ c κs. search rules) (λ c. search rules) (λ c. search rules) returns)
+pub bemulatsho_read_record_spec : {M : Type 1} → statement M
+bemulatsho_read_record_spec = tie.close (tie.spec (λ c κs. search rules) (λ c κs. search rules) (λ c. search rules) (λ c. search rules) returns)

@@ -10,5 +10,5 @@ returns c = rw (eq-eqb _ _ c.if1.true)
 returns-2 : tie.Need-returns-2
 returns-2 c = rw (ne_eqb _ _ c.if1.false)
 
-pub data-start-spec : {M : Type 1} → statement M
-data-start-spec = tie.close (tie.spec returns returns-2)
+pub data_start_spec : {M : Type 1} → statement M
+data_start_spec = tie.close (tie.spec returns returns-2)

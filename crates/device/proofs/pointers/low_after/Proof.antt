@@ -14,7 +14,7 @@ returns-3 c = rw c.before.match.keys3 (omega arith)
 returns-5 : tie.Need-returns-5
 returns-5 c = let low = c.before.args.low in past (low ∷ (low + 1) % 16 ∷ (low + 15) % 16 ∷ 0 ∷ []) low c.before.args.dpl c.match.rest
 
-pub low-after-spec : {M : Type 1} → statement M
-low-after-spec =
+pub low_after_spec : {M : Type 1} → statement M
+low_after_spec =
     tie.close (tie.spec (λ c κs. search rules) (λ c κs. search rules) (λ c. search rules) returns-2 returns-3
     (λ c. search rules) returns-5)

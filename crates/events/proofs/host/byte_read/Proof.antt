@@ -15,6 +15,6 @@ returns-2 : tie.Need-returns-2
 unfolding byte_read
 returns-2 c = rw (sym c.before.before.high_byte.ensures ∙ c.before.if1.false) (omega arith)
 
-pub byte-read-spec : {M : Type 1} → statement M
-byte-read-spec =
+pub byte_read_spec : {M : Type 1} → statement M
+byte_read_spec =
     tie.close (tie.spec (λ c κs. search rules) returns returns-2)

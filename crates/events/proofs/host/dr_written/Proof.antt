@@ -15,7 +15,7 @@ returns-2 : tie.Need-returns-2
 unfolding dr_written
 returns-2 c = rw (sym c.before.before.high_byte.ensures ∙ c.before.if1.false)
 
-pub dr-written-spec : {M : Type 1} → statement M
-dr-written-spec =
+pub dr_written_spec : {M : Type 1} → statement M
+dr_written_spec =
     tie.close (tie.spec (λ c κs. search rules) (λ c. search rules) (λ c. search rules) returns (λ c. search rules)
     (λ c. search rules) returns-2)

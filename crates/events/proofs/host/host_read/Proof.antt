@@ -7,6 +7,6 @@ use Rattle.events.proofs.host.host_read.Tie as tie
 returns : tie.Need-returns
 returns c = rw c.status-accessed.ensures
 
-pub host-read-spec : {M : Type 1} → statement M
-host-read-spec =
+pub host_read_spec : {M : Type 1} → statement M
+host_read_spec =
     tie.close (tie.spec (λ c κs. search rules) returns)

@@ -21,7 +21,7 @@ returns-3 : tie.Need-returns-3
 unfolding status_accessed
 returns-3 c = rw (sym c.before.before.before.drc.ensures ∙ c.before.before.if1.false, sym c.before.drs.ensures ∙ c.if2.false) c.before.before.before.before.with-drs.ensures
 
-pub status-accessed-spec : {M : Type 1} → statement M
-status-accessed-spec =
+pub status_accessed_spec : {M : Type 1} → statement M
+status_accessed_spec =
     tie.close (tie.spec (λ c κs. search rules) (λ c κs. search rules) (λ c κs. search rules) (λ c κs. search rules) returns
     (λ c κs. search rules) returns-2 returns-3)

@@ -45,7 +45,7 @@ returns-12 c = rw c.match.keys12
 returns-13 : tie.Need-returns-13
 returns-13 c = past (condition_flags c.before.args.r) false c.before.args.n c.match.rest
 
-pub condition-flag-spec : {M : Type 1} → statement M
-condition-flag-spec =
+pub condition_flag_spec : {M : Type 1} → statement M
+condition_flag_spec =
     tie.close (tie.spec returns returns-2 returns-3 returns-4 returns-5 returns-6 returns-7 returns-8 returns-9
     returns-10 returns-11 returns-12 returns-13)

@@ -33,7 +33,7 @@ returns-5 c =
     let h : 32 ≤ cnd = omega (arith, c.if2.false, c.before.before.match.rest) in
     rw (le-ltb cnd 24 (omega arith), ne_eqb cnd 24 (λ e. omega arith), ne_eqb cnd 25 (λ e. omega arith), le-ltb cnd 32 h)
 
-pub condition-holds-spec : {M : Type 1} → statement M
-condition-holds-spec =
+pub condition_holds_spec : {M : Type 1} → statement M
+condition_holds_spec =
     tie.close (tie.spec (λ c κs. search rules) (λ c κs. search rules) (λ c. search rules) (λ c κs. search rules)
     (λ c. search rules) (λ c κs. search rules) returns returns-2 returns-3 returns-4 returns-5)

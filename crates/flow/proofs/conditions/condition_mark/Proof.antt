@@ -19,6 +19,6 @@ returns-3 c = rw (c.rqm.ensures, c.before.match.keys3)
 returns-4 : tie.Need-returns-4
 returns-4 c = past (condition_marks c.before.args.r) false c.before.args.n c.match.rest
 
-pub condition-mark-spec : {M : Type 1} → statement M
-condition-mark-spec =
+pub condition_mark_spec : {M : Type 1} → statement M
+condition_mark_spec =
     tie.close (tie.spec (λ c κs. search rules) returns returns-2 returns-3 returns-4)

@@ -34,7 +34,7 @@ loop-again c =
 returns-2 : tie.Need-returns-2 invariant-loop decreases-loop
 returns-2 c = sym (c.before.loop.invariant.1 ∙ digits-end _ _ c.loop-test.false)
 
-pub all-digits-spec : {M : Type 1} → statement M
-all-digits-spec =
+pub all_digits_spec : {M : Type 1} → statement M
+all_digits_spec =
     tie.close (tie.spec invariant-loop decreases-loop loop-holds (λ c. search rules) (λ c κs. search rules) returns
     (λ c. search rules) (λ c. search rules) loop-again returns-2)

@@ -9,7 +9,7 @@ returns : tie.Need-returns
 unfolding byte
 returns c = rw (c.digit2.ensures.0, c.before.digit.ensures.0)
 
-pub byte-spec : {M : Type 1} → statement M
-byte-spec =
+pub byte_spec : {M : Type 1} → statement M
+byte_spec =
     tie.close (tie.spec (λ c κs. search rules) (λ c κs. search rules) (λ c. search rules) (λ c. search rules)
     (λ c. search rules) (λ c. search rules) (λ c. search rules) returns)

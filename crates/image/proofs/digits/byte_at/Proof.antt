@@ -9,6 +9,6 @@ returns : tie.Need-returns
 unfolding byte_at
 returns c = rw c.byte.ensures
 
-pub byte-at-spec : {M : Type 1} → statement M
-byte-at-spec =
+pub byte_at_spec : {M : Type 1} → statement M
+byte_at_spec =
     tie.close (tie.spec (λ c. search rules) (λ c. search rules) (λ c. search rules) (λ c κs. search rules) returns)

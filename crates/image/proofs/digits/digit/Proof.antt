@@ -72,7 +72,7 @@ returns-7 c = (
   omega arith,
 )
 
-pub digit-spec : {M : Type 1} → statement M
-digit-spec =
+pub digit_spec : {M : Type 1} → statement M
+digit_spec =
     tie.close (tie.spec returns returns-2 returns-3 (λ c. search rules) returns-4 returns-5 (λ c. search rules)
     returns-6 returns-7)

@@ -30,8 +30,8 @@ returns c =
     let at-args = c.before.before.before.args in
     omega (arith, total-end at-args.characters.now c.before.loop.i (omega arith), c.before.loop.invariant.3)
 
-pub sum-spec : {M : Type 1} → statement M
-sum-spec =
+pub sum_spec : {M : Type 1} → statement M
+sum_spec =
     tie.close (tie.spec invariant-loop decreases-loop (λ c. search rules) (λ c. search rules) (λ c κs. search rules)
     (λ c. search rules) (λ c. search rules) (λ c. search rules) (λ c. search rules) (λ c. search rules)
     (λ c. search rules) loop-again returns)

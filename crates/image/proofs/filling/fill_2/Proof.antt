@@ -51,8 +51,8 @@ returns c =
     let long = cells-length 2 n at-args.bytes.now in
     fill-all (cells 2 n at-args.bytes.now) c.before.loop.image c.before.loop.i (omega arith) (omega arith) c.before.loop.invariant.2
 
-pub fill-2-spec : {M : Type 1} → statement M
-fill-2-spec =
+pub fill_2_spec : {M : Type 1} → statement M
+fill_2_spec =
     tie.close (tie.spec invariant-loop decreases-loop loop-holds (λ c. search rules) (λ c. search rules) (λ c. search rules)
     (λ c. search rules) (λ c. search rules) (λ c. search rules) mul-image-3 add-image (λ c. search rules)
     (λ c. search rules) (λ c. search rules) (λ c. search rules) loop-again (λ c. search rules) returns)

@@ -45,8 +45,8 @@ returns c =
     let long = cells-length 4 n at-args.bytes.now in
     fill-all (cells 4 n at-args.bytes.now) c.before.loop.image c.before.loop.i (omega arith) (omega arith) c.before.loop.invariant.2
 
-pub fill-4-spec : {M : Type 1} → statement M
-fill-4-spec =
+pub fill_4_spec : {M : Type 1} → statement M
+fill_4_spec =
     tie.close (tie.spec invariant-loop decreases-loop loop-holds (λ c. search rules) (λ c. search rules) (λ c. search rules)
     (λ c. search rules) (λ c. search rules) (λ c. search rules) (λ c. search rules) (λ c. search rules)
     (λ c. search rules) (λ c. search rules) (λ c. search rules) (λ c. search rules) four-requires (λ c. search rules)

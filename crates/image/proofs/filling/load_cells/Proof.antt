@@ -31,7 +31,7 @@ returns-2 c =
     let all : min (length at-args.image.now) 512 ≡ length at-args.image.now = omega arith in
     rw all at-load-with.ensures
 
-pub load-cells-spec : {M : Type 1} → statement M
-load-cells-spec =
+pub load_cells_spec : {M : Type 1} → statement M
+load_cells_spec =
     tie.close (tie.spec (λ c. search rules) returns (λ c. search rules) (λ c. search rules) (λ c. search rules) (λ c. search rules)
     load-with-requires (λ c. search rules) returns-2)

@@ -19,5 +19,5 @@ returns-2 c =
     let at-if1 = c.before.before.before.before.if1 in
     load-all intel_hex 2 512 512 at-args.text.now at-args.image.now at-if1.false (omega arith) c.before.before.load_Cells.ensures
 
-pub load-data-spec : {M : Type 1} → statement M
-load-data-spec = tie.close (tie.spec (λ c. search rules) returns (λ c κs. search rules) (λ c. search rules) returns-2)
+pub load_data_spec : {M : Type 1} → statement M
+load_data_spec = tie.close (tie.spec (λ c. search rules) returns (λ c κs. search rules) (λ c. search rules) returns-2)

@@ -43,7 +43,7 @@ returns-3 c =
     ap (loaded at-walk.result) (at-fill-4.ensures ∙ ap (λ (n : ℕ). cells 4 n at-walk.new.1.0) at-if1.false)
     ∙ sym (load-taken intel_hex 4 512 at-args.text.now at-args.image.now at-if1.false at-walk.result _ at-walk.ensures at-if2.false)
 
-pub load-program-spec : {M : Type 1} → statement M
-load-program-spec =
+pub load_program_spec : {M : Type 1} → statement M
+load_program_spec =
     tie.close (tie.spec (λ c. search rules) returns (λ c. search rules) (λ c κs. search rules) returns-2
     (λ c. search rules) fill-4-requires (λ c. search rules) returns-3)

@@ -45,6 +45,6 @@ returns-2 c =
     ∙ sym (load-taken intel_hex 2 (length at-args.image.now) at-args.text.now at-args.image.now refl at-walk.result _
     (walk-blank 2 (length at-args.image.now) at-args.text.now at-args.given.now at_pre at-walk.ensures) at-if1.false)
 
-pub load-with-spec : {M : Type 1} → statement M
-load-with-spec =
+pub load_with_spec : {M : Type 1} → statement M
+load_with_spec =
     tie.close (tie.spec (λ c κs. search rules) (λ c. search rules) returns fill-2-requires (λ c. search rules) (λ c. search rules) returns-2)

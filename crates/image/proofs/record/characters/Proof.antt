@@ -23,6 +23,6 @@ returns c =
     let at-args = c.before.before.before.args in
     ap (λ (k : ℕ). take (k - 1) (drop 1 at-args.line.now)) c.before.ending.ensures
 
-pub characters-spec : {M : Type 1} → statement M
-characters-spec =
+pub characters_spec : {M : Type 1} → statement M
+characters_spec =
     tie.close (tie.spec (λ c κs. search rules) sub-result part-result-start part-result-end returns)

@@ -13,7 +13,7 @@ returns c =
     let n : 9 + 2 * c.before.args.bytes - 9 ≡ 2 * c.before.args.bytes = omega arith in
     (ap (λ (k : ℕ). take k (drop 9 c.before.args.line.now)) n, (refl, omega arith))
 
-pub data-characters-spec : {M : Type 1} → statement M
-data-characters-spec =
+pub data_characters_spec : {M : Type 1} → statement M
+data_characters_spec =
     tie.close (tie.spec (λ c. search rules) (λ c. search rules) (λ c. search rules) (λ c. search rules)
     (λ c. search rules) returns)

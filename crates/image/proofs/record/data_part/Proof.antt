@@ -43,7 +43,7 @@ returns-2 c =
       ),
     )
 
-pub data-part-spec : {M : Type 1} → statement M
-data-part-spec =
+pub data_part_spec : {M : Type 1} → statement M
+data_part_spec =
     tie.close (tie.spec (λ c κs. search rules) (λ c. search rules) (λ c. search rules) (λ c. search rules) returns
     data-characters-requires returns-2)

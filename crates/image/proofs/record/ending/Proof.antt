@@ -14,6 +14,6 @@ returns-2 : tie.Need-returns-2
 unfolding ending
 returns-2 c = rw (ne_eqb _ _ c.if1.false)
 
-pub ending-spec : {M : Type 1} → statement M
-ending-spec =
+pub ending_spec : {M : Type 1} → statement M
+ending_spec =
     tie.close (tie.spec (λ c. search rules) (λ c. search rules) returns (λ c. search rules) returns-2)

@@ -83,8 +83,8 @@ returns-6 c =
       ← c.byte-at2.ensures,
     )
 
-pub formed-spec : {M : Type 1} → statement M
-formed-spec =
+pub formed_spec : {M : Type 1} → statement M
+formed_spec =
     tie.close (tie.spec returns (λ c. search rules) returns-2 (λ c. search rules) (λ c. search rules) returns-3
     (λ c κs. search rules) (λ c κs. search rules) returns-4 (λ c κs. search rules) (λ c κs. search rules)
     (λ c. search rules) (λ c. search rules) (λ c. search rules) returns-5 (λ c κs. search rules) returns-6)

@@ -53,7 +53,7 @@ returns-3 c =
     (head-said at-args.line.now (sym at-formed.ensures ∙ not-false at-formed.result at-if1.false)
     (eq-eqb _ 0 (sym (at_sum.ensures ∙ ap (λ (l : List ℕ). total (bytes_of l) % 256) at-characters.ensures) ∙ c.before.if2.false)))
 
-pub record-head-spec : {M : Type 1} → statement M
-record-head-spec =
+pub record_head_spec : {M : Type 1} → statement M
+record_head_spec =
     tie.close (tie.spec (λ c κs. search rules) (λ c κs. search rules) returns characters-requires
     (λ c κs. search rules) (λ c κs. search rules) returns-2 said-requires returns-3)

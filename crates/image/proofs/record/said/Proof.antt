@@ -22,8 +22,8 @@ returns-2 c =
     rw (at-byte-at.ensures, at-byte-at2.ensures, c.before.byte-at3.ensures, c.byte-at4.ensures)
     (sym (said-0 at-args.line.now (omega (arith, at-byte-at.ensures, at-if1.false))))
 
-pub said-spec : {M : Type 1} → statement M
-said-spec =
+pub said_spec : {M : Type 1} → statement M
+said_spec =
     tie.close (tie.spec (λ c κs. search rules) (λ c κs. search rules) returns (λ c κs. search rules)
     (λ c κs. search rules) (λ c κs. search rules) (λ c. search rules) (λ c. search rules) (λ c. search rules)
     (λ c. search rules) returns-2)

@@ -23,7 +23,7 @@ returns-3 c =
     let at-if1 = c.before.before.if1 in
     rw (← at-missing.ensures, at-if1.false, c.before.if2.false) c.ending-at3.ensures
 
-pub ended-spec : {M : Type 1} → statement M
-ended-spec =
+pub ended_spec : {M : Type 1} → statement M
+ended_spec =
     tie.close (tie.spec (λ c κs. search rules) (λ c κs. search rules) returns (λ c. search rules)
     (λ c κs. search rules) returns-2 (λ c κs. search rules) returns-3)

@@ -38,7 +38,7 @@ returns-2 c =
     let at-args = c.before.before.args in
     omega (arith, c.before.loop.invariant.1, length-end at-args.text.now c.before.loop.i c.loop-test.false)
 
-pub line-end-spec : {M : Type 1} → statement M
-line-end-spec =
+pub line_end_spec : {M : Type 1} → statement M
+line_end_spec =
     tie.close (tie.spec invariant-loop decreases-loop loop-holds (λ c. search rules) (λ c. search rules) returns (λ c. search rules)
     (λ c. search rules) loop-again returns-2)

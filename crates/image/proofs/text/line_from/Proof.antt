@@ -21,6 +21,6 @@ returns c =
     let n : c.before.line-end.result - at-args.at ≡ line_length (drop at-args.at at-args.text.now) = omega (arith, c.before.line-end.ensures) in
     ap (λ (k : ℕ). take k (drop at-args.at at-args.text.now)) n
 
-pub line-from-spec : {M : Type 1} → statement M
-line-from-spec =
+pub line_from_spec : {M : Type 1} → statement M
+line_from_spec =
     tie.close (tie.spec (λ c κs. search rules) (λ c. search rules) (λ c. search rules) part-result-end returns)

@@ -33,7 +33,7 @@ loop-again c =
 returns-2 : tie.Need-returns-2 invariant-loop decreases-loop
 returns-2 c = sym (c.before.loop.invariant.1 ∙ missing-end _ _ c.loop-test.false)
 
-pub missing-spec : {M : Type 1} → statement M
-missing-spec =
+pub missing_spec : {M : Type 1} → statement M
+missing_spec =
     tie.close (tie.spec invariant-loop decreases-loop loop-holds (λ c. search rules) (λ c. search rules) returns (λ c. search rules)
     (λ c. search rules) loop-again returns-2)

@@ -13,6 +13,6 @@ returns-2 : tie.Need-returns-2
 unfolding unended
 returns-2 c = rw (← c.before.before.missing.ensures, c.before.if1.false) c.ending-at2.ensures
 
-pub unended-spec : {M : Type 1} → statement M
-unended-spec =
+pub unended_spec : {M : Type 1} → statement M
+unended_spec =
     tie.close (tie.spec (λ c κs. search rules) (λ c κs. search rules) returns (λ c κs. search rules) returns-2)

@@ -125,8 +125,8 @@ returns-4 c =
     ap (λ (end : Loading). walked end at-loop.given) c.unended.ensures
     ∙ sym (at-loop.invariant.4 ∙ walk-over at-args.text.now at-loop.at at-loop.line at-loop.given at-loop-test.false)
 
-pub walk-spec : {M : Type 1} → statement M
-walk-spec =
+pub walk_spec : {M : Type 1} → statement M
+walk_spec =
     tie.close (tie.spec invariant-loop decreases-loop loop-holds (λ c κs. search rules) add-e (λ c κs. search rules)
     (λ c. search rules) (λ c κs. search rules) (λ c. search rules) returns (λ c κs. search rules) (λ c. search rules)
     returns-2 data-characters-requires (λ c. search rules) (λ c κs. search rules) (λ c κs. search rules)

@@ -7,5 +7,5 @@ use Rattle.machine.proofs.call.accept.Tie as tie
 returns : tie.Need-returns
 returns c = λ ram. refl
 
-pub accept-spec : {M : Type 1} → statement M
-accept-spec = tie.close (tie.spec returns)
+pub accept_spec : {M : Type 1} → statement M
+accept_spec = tie.close (tie.spec returns)

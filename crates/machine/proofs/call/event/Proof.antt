@@ -81,8 +81,8 @@ returns-11 : tie.Need-returns-11
 returns-11 c = let s = c.before.before.before.before.before.before.before.before.before.before.before.before.args in
     rw (c.finish5.ensures, c.before.reset-machine.ensures) (kind-reset s.large s.registers s.trb s.program.now s.rom.now s.ram.now s.kind s.value c.before.before.match.rest ∙ done c.before.before.before)
 
-pub event-spec : {M : Type 1} → statement M
-event-spec =
+pub event_spec : {M : Type 1} → statement M
+event_spec =
     tie.close (tie.spec (λ c κs. search rules) (λ c κs. search rules) returns (λ c κs. search rules)
     (λ c κs. search rules) returns-2 (λ c κs. search rules) (λ c κs. search rules) returns-3 cast-run
     (λ c κs. search rules) (λ c κs. search rules) (λ c κs. search rules) (λ c κs. search rules) cast-host-write

@@ -24,7 +24,7 @@ returns-3 : tie.Need-returns-3
 unfolding interrupt_ending
 returns-3 c = λ ram. rw (c.finish.ensures ram, sym c.before.before.ei.ensures ∙ c.before.if1.false)
 
-pub interrupt-event-spec : {M : Type 1} → statement M
-interrupt-event-spec =
+pub interrupt_event_spec : {M : Type 1} → statement M
+interrupt_event_spec =
     tie.close (tie.spec (λ c κs. search rules) (λ c κs. search rules) (λ c κs. search rules) returns
     (λ c κs. search rules) (λ c κs. search rules) returns-2 (λ c κs. search rules) returns-3)

@@ -13,6 +13,6 @@ returns-2 : tie.Need-returns-2
 unfolding serial_out_ending
 returns-2 c = λ ram. rw (c.refuse.ensures ram, c.before.if1.false)
 
-pub serial-out-event-spec : {M : Type 1} → statement M
-serial-out-event-spec =
+pub serial_out_event_spec : {M : Type 1} → statement M
+serial_out_event_spec =
     tie.close (tie.spec (λ c κs. search rules) (λ c κs. search rules) returns (λ c κs. search rules) returns-2)

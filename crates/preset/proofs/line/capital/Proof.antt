@@ -14,6 +14,6 @@ returns-2 : tie.Need-returns-2
 unfolding capital
 returns-2 c = rw (le-ltb _ _ c.if1.false)
 
-pub capital-spec : {M : Type 1} → statement M
-capital-spec =
+pub capital_spec : {M : Type 1} → statement M
+capital_spec =
     tie.close (tie.spec (λ c. search rules) returns (λ c. search rules) returns-2)

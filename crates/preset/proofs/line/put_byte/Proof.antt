@@ -10,7 +10,7 @@ returns : tie.Need-returns
 unfolding spelled
 returns c = rw (add-one, ← c.before.capital.ensures, ← c.capital2.ensures)
 
-pub put-byte-spec : {M : Type 1} → statement M
-put-byte-spec =
+pub put_byte_spec : {M : Type 1} → statement M
+put_byte_spec =
     tie.close (tie.spec (λ c. search rules) (λ c κs. search rules) (λ c. search rules) (λ c κs. search rules)
     (λ c. search rules) (λ c. search rules) returns)

@@ -40,7 +40,7 @@ returns c =
     let at-args = c.before.before.before.before.args in
     sym (c.before.loop.invariant.2 ∙ spelled-done at-args.bytes.now c.before.loop.text _ c.before.loop.i (omega arith))
 
-pub put-bytes-spec : {M : Type 1} → statement M
-put-bytes-spec =
+pub put_bytes_spec : {M : Type 1} → statement M
+put_bytes_spec =
     tie.close (tie.spec invariant-loop decreases-loop loop-holds (λ c. search rules) (λ c. search rules) (λ c. search rules)
     (λ c κs. search rules) (λ c. search rules) (λ c. search rules) loop-again (λ c. search rules) returns)

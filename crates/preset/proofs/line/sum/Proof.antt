@@ -33,7 +33,7 @@ returns c =
     let at-args = c.before.before.args in
     omega (arith, total-done at-args.bytes.now c.before.loop.i (omega arith), c.before.loop.invariant.2)
 
-pub sum-spec : {M : Type 1} → statement M
-sum-spec =
+pub sum_spec : {M : Type 1} → statement M
+sum_spec =
     tie.close (tie.spec invariant-loop decreases-loop (λ c. search rules) (λ c. search rules) (λ c. search rules) cast-s-2 add-s
     (λ c. search rules) (λ c. search rules) (λ c. search rules) loop-again returns)

@@ -20,6 +20,6 @@ returns-2 c =
     let at-load-cells = c.before.before.load_Cells in
     load-all intel_hex 2 512 128 at-args.text.now at-args.ram.now at-if1.false (omega arith) at-load-cells.ensures
 
-pub load-preset-spec : {M : Type 1} → statement M
-load-preset-spec =
+pub load_preset_spec : {M : Type 1} → statement M
+load_preset_spec =
     tie.close (tie.spec (λ c. search rules) returns (λ c κs. search rules) (λ c. search rules) returns-2)

@@ -82,8 +82,8 @@ returns c =
     sym
     (at-loop.invariant.4 ∙ end-stored at-args.bytes.now at-loop.from (omega arith) at-loop.text _ at-loop.at at-put-record2.ensures)
 
-pub put-text-spec : {M : Type 1} → statement M
-put-text-spec =
+pub put_text_spec : {M : Type 1} → statement M
+put_text_spec =
     tie.close (tie.spec invariant-loop decreases-loop loop-holds (λ c. search rules) (λ c κs. search rules) add-end
     (λ c. search rules) (λ c. search rules) part-put-record-end put-record-requires mul_at add_at add-at-2
     (λ c. search rules) (λ c. search rules) loop-again (λ c. search rules) (λ c. search rules) (λ c. search rules)

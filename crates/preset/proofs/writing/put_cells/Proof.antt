@@ -44,8 +44,8 @@ returns c =
     let all = sets-all (cell_bytes 2 at-args.cells.now) at-args.bytes.now (omega (arith, length-bytes 2 at-args.cells.now)) in
     sym (cells-done at-args.cells.now c.before.loop.bytes _ c.before.loop.i (omega arith)) ∙ sym c.before.loop.invariant.2 ∙ all
 
-pub put-cells-spec : {M : Type 1} → statement M
-put-cells-spec =
+pub put_cells_spec : {M : Type 1} → statement M
+put_cells_spec =
     tie.close (tie.spec invariant-loop decreases-loop loop-holds (λ c. search rules) (λ c. search rules) (λ c. search rules)
     (λ c. search rules) (λ c. search rules) (λ c. search rules) (λ c. search rules) (λ c. search rules) cast-bytes-2
     slice-write-bytes-2 (λ c. search rules) (λ c. search rules) loop-again (λ c. search rules) returns)

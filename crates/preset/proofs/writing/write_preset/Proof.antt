@@ -32,7 +32,7 @@ returns-3 c =
     let at-put-text = c.before.before.put-text in
     all-written at-args.ram.now at-args.text.now at-if1.false _ (omega arith) at-put-cells.ensures _ at-put-text.ensures
 
-pub write-preset-spec : {M : Type 1} → statement M
-write-preset-spec =
+pub write_preset_spec : {M : Type 1} → statement M
+write_preset_spec =
     tie.close (tie.spec (λ c. search rules) returns returns-2 (λ c. search rules) (λ c κs. search rules)
     (λ c. search rules) put-text-requires (λ c. search rules) returns-3)

@@ -51,8 +51,8 @@ returns-4 c =
       ne_eqb (op_fields s.large s.w).asl 0 (λ e. omega (arith, c.before.if3.false)),
     )
 
-pub accumulate-spec : {M : Type 1} → statement M
-accumulate-spec =
+pub accumulate_spec : {M : Type 1} → statement M
+accumulate_spec =
     tie.close (tie.spec (λ c κs. search rules) (λ c κs. search rules) (λ c. search rules) (λ c κs. search rules) returns
     (λ c. search rules) (λ c κs. search rules) returns-2 (λ c κs. search rules) (λ c κs. search rules)
     (λ c κs. search rules) (λ c κs. search rules) returns-3 (λ c κs. search rules) returns-4)

@@ -36,7 +36,7 @@ returns-4 c =
     let e : c.before.before.before.args.psel ≡ 1 = omega arith in
     rw e
 
-pub operand-spec : {M : Type 1} → statement M
-operand-spec =
+pub operand_spec : {M : Type 1} → statement M
+operand_spec =
     tie.close (tie.spec (λ c κs. search rules) returns (λ c κs. search rules) returns-2 (λ c κs. search rules) returns-3
     returns-4)

@@ -32,8 +32,8 @@ returns-4 c =
     let of = c.before.before.before.before.before in
     c.store-a3.ensures ∙ ap (stored_a of.before.before.args.r) (c.before.other_result.ensures ∙ carried of c.before.before.before.plan3.given.1)
 
-pub operate-a-spec : {M : Type 1} → statement M
-operate-a-spec =
+pub operate_a_spec : {M : Type 1} → statement M
+operate_a_spec =
     tie.close (tie.spec (λ c κs. search rules) (λ c. search rules) (λ c. search rules) (λ c κs. search rules)
     (λ c κs. search rules) (λ c. search rules) (λ c κs. search rules) (λ c κs. search rules) (λ c. search rules)
     (λ c κs. search rules) (λ c κs. search rules) returns returns-2 returns-3 returns-4)

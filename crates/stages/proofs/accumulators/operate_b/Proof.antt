@@ -32,8 +32,8 @@ returns-4 c =
     let of = c.before.before.before.before.before in
     c.store-b3.ensures ∙ ap (stored_b of.before.before.args.r) (c.before.other_result.ensures ∙ carried of c.before.before.before.plan3.given.1)
 
-pub operate-b-spec : {M : Type 1} → statement M
-operate-b-spec =
+pub operate_b_spec : {M : Type 1} → statement M
+operate_b_spec =
     tie.close (tie.spec (λ c κs. search rules) (λ c. search rules) (λ c. search rules) (λ c κs. search rules)
     (λ c κs. search rules) (λ c. search rules) (λ c κs. search rules) (λ c κs. search rules) (λ c. search rules)
     (λ c κs. search rules) (λ c κs. search rules) returns returns-2 returns-3 returns-4)

@@ -75,8 +75,8 @@ returns-17 : tie.Need-returns-17
 unfolding bus_of
 returns-17 c = rw (c.cell-at2.ensures, c.before.enum-told16.given.1)
 
-pub bus-value-spec : {M : Type 1} → statement M
-bus-value-spec =
+pub bus_value_spec : {M : Type 1} → statement M
+bus_value_spec =
     tie.close (tie.spec (λ c. search rules) (λ c κs. search rules) (λ c. search rules) (λ c. search rules)
     (λ c. search rules) (λ c. search rules) (λ c. search rules) (λ c. search rules) (λ c κs. search rules)
     (λ c κs. search rules) (λ c. search rules) (λ c. search rules) (λ c. search rules) (λ c. search rules)

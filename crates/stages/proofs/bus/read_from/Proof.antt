@@ -52,7 +52,7 @@ returns-3 c = rw c.enum-told3.given.1
 returns-4 : tie.Need-returns-4
 returns-4 c = unread c.before.args.r c.before.args.source c.match.keys4
 
-pub read-from-spec : {M : Type 1} → statement M
-read-from-spec =
+pub read_from_spec : {M : Type 1} → statement M
+read_from_spec =
     tie.close (tie.spec (λ c. search rules) (λ c κs. search rules) (λ c. search rules) (λ c. search rules) returns
     returns-2 returns-3 returns-4)

@@ -10,5 +10,5 @@ returns c = rw c.if1.true
 returns-2 : tie.Need-returns-2
 returns-2 c = rw c.if1.false
 
-pub trb-or-none-spec : {M : Type 1} → statement M
-trb-or-none-spec = tie.close (tie.spec returns returns-2)
+pub trb_or_none_spec : {M : Type 1} → statement M
+trb_or_none_spec = tie.close (tie.spec returns returns-2)

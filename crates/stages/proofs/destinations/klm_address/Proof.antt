@@ -8,5 +8,5 @@ use Rattle.stages.proofs.destinations.klm_address.Tie as tie
 returns : tie.Need-returns
 returns c = omega arith
 
-pub klm-address-spec : {M : Type 1} → statement M
-klm-address-spec = tie.close (tie.spec (λ c. search rules) (λ c. search rules) (λ c. search rules) returns)
+pub klm_address_spec : {M : Type 1} → statement M
+klm_address_spec = tie.close (tie.spec (λ c. search rules) (λ c. search rules) (λ c. search rules) returns)

@@ -11,5 +11,5 @@ returns c = let s = c.before.args in sym (ap (λ (t : Bool). cond t s.bus s.trb)
 returns-2 : tie.Need-returns-2
 returns-2 c = let s = c.before.args in sym (ap (λ (t : Bool). cond t s.bus s.trb) c.if1.false)
 
-pub load-trb-spec : {M : Type 1} → statement M
-load-trb-spec = tie.close (tie.spec returns returns-2)
+pub load_trb_spec : {M : Type 1} → statement M
+load_trb_spec = tie.close (tie.spec returns returns-2)

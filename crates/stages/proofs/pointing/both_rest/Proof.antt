@@ -10,5 +10,5 @@ returns c = rw (c.before.if1.true, c.bits.ensures)
 returns-2 : tie.Need-returns-2
 returns-2 c = rw (c.before.if1.false, c.bits2.ensures)
 
-pub both-rest-spec : {M : Type 1} → statement M
-both-rest-spec = tie.close (tie.spec (λ c κs. search rules) (λ c κs. search rules) returns returns-2)
+pub both_rest_spec : {M : Type 1} → statement M
+both_rest_spec = tie.close (tie.spec (λ c κs. search rules) (λ c κs. search rules) returns returns-2)

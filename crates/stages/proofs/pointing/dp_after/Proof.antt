@@ -30,7 +30,7 @@ returns-3 c =
       ne_eqb (bits c.before.before.before.before.before.before.before.before.args.w 3 0) 4 (λ e. omega (arith, c.before.before.before.before.if2.false)),
     )
 
-pub dp-after-spec : {M : Type 1} → statement M
-dp-after-spec =
+pub dp_after_spec : {M : Type 1} → statement M
+dp_after_spec =
     tie.close (tie.spec (λ c κs. search rules) returns (λ c κs. search rules) returns-2 (λ c κs. search rules)
     (λ c κs. search rules) (λ c. search rules) (λ c κs. search rules) (λ c κs. search rules) returns-3)

@@ -19,6 +19,6 @@ returns-2 : tie.Need-returns-2
 unfolding pointed
 returns-2 c = rw (c.rp-after.ensures, c.before.dp-after.ensures)
 
-pub point-spec : {M : Type 1} → statement M
-point-spec =
+pub point_spec : {M : Type 1} → statement M
+point_spec =
     tie.close (tie.spec (λ c κs. search rules) returns (λ c κs. search rules) (λ c κs. search rules) returns-2)

@@ -20,7 +20,7 @@ returns-3 c =
     let w = c.before.before.before.before.before.args.w in
     rw (c.down.ensures, ne_eqb (bits w 3 0) 5 (λ e. omega (arith, c.before.before.before.if1.false)), ne_eqb (bits w 8 8) 0 (λ e. omega (arith, c.before.if2.false)))
 
-pub rp-after-spec : {M : Type 1} → statement M
-rp-after-spec =
+pub rp_after_spec : {M : Type 1} → statement M
+rp_after_spec =
     tie.close (tie.spec (λ c κs. search rules) returns (λ c κs. search rules) returns-2 (λ c κs. search rules)
     returns-3)

@@ -18,7 +18,7 @@ returns-3 : tie.Need-returns-3
 unfolding branch_of
 returns-3 c = rw (c.before.if1.false, c.bits3.ensures)
 
-pub branch-spec : {M : Type 1} → statement M
-branch-spec =
+pub branch_spec : {M : Type 1} → statement M
+branch_spec =
     tie.close (tie.spec (λ c κs. search rules) (λ c κs. search rules) (λ c κs. search rules) returns returns-2
     (λ c κs. search rules) returns-3)

@@ -21,5 +21,5 @@ cnd false w = refl
 returns : tie.Need-returns
 returns c = rw (c.bits.ensures, c.before.aligned.ensures) (cnd c.before.before.args.large c.before.before.args.w)
 
-pub condition-spec : {M : Type 1} → statement M
-condition-spec = tie.close (tie.spec (λ c κs. search rules) (λ c κs. search rules) (λ c. search rules) returns)
+pub condition_spec : {M : Type 1} → statement M
+condition_spec = tie.close (tie.spec (λ c κs. search rules) (λ c κs. search rules) (λ c. search rules) returns)

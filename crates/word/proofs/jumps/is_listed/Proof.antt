@@ -13,5 +13,5 @@ returns c = rw (sym c.before.before.bits.ensures ∙ c.before.if1.true, ← c.bi
 returns-2 : tie.Need-returns-2
 returns-2 c = rw (ne_eqb (bits c.before.before.args.code 8 6) 2 (λ e. c.if1.false (c.before.bits.ensures ∙ e)))
 
-pub is-listed-spec : {M : Type 1} → statement M
-is-listed-spec = tie.close (tie.spec (λ c κs. search rules) (λ c κs. search rules) returns returns-2)
+pub is_listed_spec : {M : Type 1} → statement M
+is_listed_spec = tie.close (tie.spec (λ c κs. search rules) (λ c κs. search rules) returns returns-2)

@@ -21,5 +21,5 @@ returns-2 : tie.Need-returns-2
 unfolding turned_round
 returns-2 c = rw c.if1.false
 
-pub turned-round-spec : {M : Type 1} → statement M
-turned-round-spec = tie.close (tie.spec (λ c κs. search rules) returns returns-2)
+pub turned_round_spec : {M : Type 1} → statement M
+turned_round_spec = tie.close (tie.spec (λ c κs. search rules) returns returns-2)

@@ -10,6 +10,6 @@ returns c = rw (c.cell-too-wide.ensures, ← c.before.before.bits2.ensures, ← 
 returns-2 : tie.Need-returns-2
 returns-2 c = rw (← c.before.bits2.ensures, ← c.before.before.bits.ensures, c.if1.false)
 
-pub cell-refused-spec : {M : Type 1} → statement M
-cell-refused-spec =
+pub cell_refused_spec : {M : Type 1} → statement M
+cell_refused_spec =
     tie.close (tie.spec (λ c κs. search rules) (λ c κs. search rules) (λ c κs. search rules) returns returns-2)

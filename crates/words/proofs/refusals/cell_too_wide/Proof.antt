@@ -7,5 +7,5 @@ use Rattle.words.proofs.refusals.cell_too_wide.Tie as tie
 returns : tie.Need-returns
 returns c = rw (c.cell-fits.ensures, c.before.Cell-at.ensures)
 
-pub cell-too-wide-spec : {M : Type 1} → statement M
-cell-too-wide-spec = tie.close (tie.spec (λ c κs. search rules) (λ c κs. search rules) returns)
+pub cell_too_wide_spec : {M : Type 1} → statement M
+cell_too_wide_spec = tie.close (tie.spec (λ c κs. search rules) (λ c κs. search rules) returns)

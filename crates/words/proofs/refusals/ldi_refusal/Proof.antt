@@ -34,7 +34,7 @@ returns-4 c =
     let s = c.before.before.before.before.before.args in
     rw (eq-eqb (ldi_fields s.large s.w).spare 0 (sym c.before.before.before.ldi-spare.ensures ∙ c.before.before.if1.false), ne_eqb (bits s.w 3 0) 11 (λ e. omega (arith, c.if2.false)))
 
-pub ldi-refusal-spec : {M : Type 1} → statement M
-ldi-refusal-spec =
+pub ldi_refusal_spec : {M : Type 1} → statement M
+ldi_refusal_spec =
     tie.close (tie.spec (λ c κs. search rules) returns (λ c κs. search rules) (λ c κs. search rules) returns-2 returns-3
     returns-4)

@@ -25,7 +25,7 @@ unfolding op_refusal
 returns-4 c = rw (sym c.before.before.before.before.before.before.source-missing.ensures ∙ c.before.before.before.before.before.if1.false, sym c.before.before.before.before.cell-refused.ensures ∙ c.before.before.before.if2.false, ← c.before.before.aligned.ensures)
     (sym (ap (λ (t : Bool). cond t 8 0) c.if3.false))
 
-pub op-refusal-spec : {M : Type 1} → statement M
-op-refusal-spec =
+pub op_refusal_spec : {M : Type 1} → statement M
+op_refusal_spec =
     tie.close (tie.spec (λ c κs. search rules) returns (λ c κs. search rules) returns-2 (λ c κs. search rules) returns-3
     returns-4)

@@ -54,7 +54,7 @@ returns-5 c =
     )
     (sym (and-true (leb 1 (bits w 18 15) && leb (bits w 18 15) 7)))
 
-pub source-missing-spec : {M : Type 1} → statement M
-source-missing-spec =
+pub source_missing_spec : {M : Type 1} → statement M
+source_missing_spec =
     tie.close (tie.spec returns (λ c κs. search rules) returns-2 (λ c κs. search rules) returns-3 (λ c κs. search rules)
     returns-4 (λ c κs. search rules) returns-5)

@@ -86,8 +86,8 @@ returns-9 c = λ ram.
     let e = c.before.before.before.before.branch.ensures in
     rw (c.refuse5.ensures ram, ne_eqb brch 2 (λ h. c.before.if6.false (e ∙ h)), ne_eqb brch 4 (λ h. c.before.before.before.if1.false (e ∙ h)), ne_eqb brch 5 (λ h. c.before.before.if3.false (e ∙ h)))
 
-pub jp-word-spec : {M : Type 1} → statement M
-jp-word-spec =
+pub jp_word_spec : {M : Type 1} → statement M
+jp_word_spec =
     tie.close (tie.spec (λ c κs. search rules) (λ c κs. search rules) (λ c κs. search rules) returns
     (λ c κs. search rules) (λ c κs. search rules) (λ c κs. search rules) returns-2 (λ c κs. search rules)
     (λ c κs. search rules) returns-3 (λ c κs. search rules) (λ c κs. search rules) returns-4 (λ c κs. search rules)

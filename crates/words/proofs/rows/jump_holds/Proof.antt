@@ -11,6 +11,6 @@ returns c = rw (sym c.before.turned_round.ensures ∙ c.if1.true, c.before.befor
 returns-2 : tie.Need-returns-2
 returns-2 c = rw (sym c.before.turned_round.ensures ∙ c.if1.false, c.before.before.condition-holds.ensures, c.before.before.before.condition.ensures)
 
-pub jump-holds-spec : {M : Type 1} → statement M
-jump-holds-spec =
+pub jump_holds_spec : {M : Type 1} → statement M
+jump_holds_spec =
     tie.close (tie.spec (λ c κs. search rules) (λ c κs. search rules) (λ c κs. search rules) returns returns-2)

@@ -20,8 +20,8 @@ returns-2 c = let s = c.before.before.before.before.before.before.before.before.
     (c.before.before.before.before.before.before.before.before.before.before.of_code.ensures ∙ ap destination_of c.before.before.before.before.before.before.before.before.before.before.before.bits.ensures) c.before.before.before.bits3.ensures (c.before.before.before.before.before.before.before.before.bits2.ensures ∙ ap (λ v. bits v 20 5) c.before.before.before.before.before.before.before.before.before.aligned.ensures) c.before.before.load-trb.ensures
     c.before.before.before.before.before.before.load.ensures.0 c.before.before.before.before.before.before.load.ensures.1 c.before.step.ensures
 
-pub ldi-word-spec : {M : Type 1} → statement M
-ldi-word-spec =
+pub ldi_word_spec : {M : Type 1} → statement M
+ldi_word_spec =
     tie.close (tie.spec (λ c κs. search rules) (λ c κs. search rules) returns (λ c κs. search rules) (λ c. search rules)
     (λ c κs. search rules) (λ c κs. search rules) (λ c κs. search rules) (λ c. search rules) (λ c κs. search rules)
     (λ c κs. search rules) (λ c κs. search rules) (λ c κs. search rules) (λ c κs. search rules) (λ c. search rules)

@@ -26,8 +26,8 @@ unfolding word_done
 returns-4 c = let s = c.before.before.before.before.before.before.before.before.before.args in
     rw (c.refuse.ensures, ← c.before.before.before.before.before.word.ensures) (fetched-refused s.large s.r s.trb c.before.before.before.before.before.word.result s.ram.now s.rom.now c.before.before.before.before.aligned.ensures c.before.if3.false)
 
-pub one-word-spec : {M : Type 1} → statement M
-one-word-spec =
+pub one_word_spec : {M : Type 1} → statement M
+one_word_spec =
     tie.close (tie.spec (λ c κs. search rules) (λ c κs. search rules) (λ c κs. search rules) (λ c. search rules) returns
     (λ c κs. search rules) returns-2 (λ c κs. search rules) (λ c. search rules) returns-3 (λ c κs. search rules)
     returns-4)

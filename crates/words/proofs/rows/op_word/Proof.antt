@@ -20,8 +20,8 @@ returns-2 c = let s = c.before.before.before.before.before.before.before.before.
     (c.before.before.before.before.before.before.before.before.before.before.before.before.before.before.before.before.of_code.ensures ∙ ap source_of c.before.before.before.before.before.before.before.before.before.before.before.before.before.before.before.before.before.bits.ensures) (c.before.before.before.before.before.before.before.before.before.before.before.before.before.before.of-code2.ensures ∙ ap destination_of c.before.before.before.before.before.before.before.before.before.before.before.before.before.before.before.bits2.ensures) c.before.before.before.before.before.before.before.before.before.before.bits3.ensures
     c.before.before.before.before.before.before.before.before.before.before.before.before.bus-value.ensures c.before.before.before.before.before.before.before.before.before.load-trb.ensures c.before.before.before.before.before.before.before.before.before.before.before.read-from.ensures c.before.before.before.before.before.before.before.accumulate.ensures c.before.before.before.before.before.load.ensures.0 c.before.before.before.before.before.load.ensures.1 c.before.before.point.ensures c.before.leave.ensures
 
-pub op-word-spec : {M : Type 1} → statement M
-op-word-spec =
+pub op_word_spec : {M : Type 1} → statement M
+op_word_spec =
     tie.close (tie.spec (λ c κs. search rules) (λ c κs. search rules) returns (λ c κs. search rules) (λ c. search rules)
     (λ c κs. search rules) (λ c κs. search rules) (λ c. search rules) (λ c κs. search rules) (λ c κs. search rules)
     (λ c κs. search rules) (λ c κs. search rules) (λ c κs. search rules) (λ c κs. search rules) (λ c κs. search rules)

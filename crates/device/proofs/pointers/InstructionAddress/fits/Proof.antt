@@ -7,5 +7,5 @@ use Rattle.device.proofs.pointers.InstructionAddress.fits.Tie as tie
 returns : tie.Need-returns
 returns c = rw c.before.words.ensures
 
-pub fits-spec : {M : Type 1} → statement M
-fits-spec = tie.close (tie.spec (λ c κs. search rules) returns)
+pub fits_spec : {M : Type 1} → statement M
+fits_spec = tie.close (tie.spec (λ c κs. search rules) returns)

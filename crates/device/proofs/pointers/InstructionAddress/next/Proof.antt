@@ -16,5 +16,5 @@ returns-2 c =
     let e : c.before.wrapping-add-u16.result % upd77p20.words ≡ (next_address upd77p20 c.before.before.args.self).0 = omega arith in
     rw c.if1.false (λ i. record { 0 = e i })
 
-pub next-spec : {M : Type 1} → statement M
-next-spec = tie.close (tie.spec (λ c κs. search rules) returns returns-2)
+pub next_spec : {M : Type 1} → statement M
+next_spec = tie.close (tie.spec (λ c κs. search rules) returns returns-2)

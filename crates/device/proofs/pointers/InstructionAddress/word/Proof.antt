@@ -8,6 +8,6 @@ use Rattle.device.proofs.pointers.InstructionAddress.word.Tie as tie
 returns-2 : tie.Need-returns-2
 returns-2 c = let s = c.before.before.args in sym (get_or-eq_default s.program.now 0 {n = s.self.0} c.if1.false)
 
-pub word-spec : {M : Type 1} → statement M
-word-spec =
+pub word_spec : {M : Type 1} → statement M
+word_spec =
     tie.close (tie.spec (λ c. search rules) (λ c. search rules) (λ c. search rules) (λ c. search rules) returns-2)

@@ -20,5 +20,5 @@ returns : tie.Need-returns
 unfolding ram_pointer_moved
 returns c = rw c.low-after.ensures
 
-pub moved-spec : {M : Type 1} → statement M
-moved-spec = tie.close (tie.spec mul-t6 (λ c κs. search rules) add-t9 returns)
+pub moved_spec : {M : Type 1} → statement M
+moved_spec = tie.close (tie.spec mul-t6 (λ c κs. search rules) add-t9 returns)

@@ -9,5 +9,5 @@ returns c = rw c.if1.true
 returns-2 : tie.Need-returns-2
 returns-2 c = rw c.if1.false
 
-pub of-bus-spec : {M : Type 1} → statement M
-of-bus-spec = tie.close (tie.spec returns returns-2)
+pub of_bus_spec : {M : Type 1} → statement M
+of_bus_spec = tie.close (tie.spec returns returns-2)

@@ -16,7 +16,7 @@ returns-2 c =
     let e : c.wrapping-add-u162.result % upd77p20.cells ≡ (rom_pointer_down upd77p20 c.before.before.args.self).0 = omega arith in
     rw c.before.if1.false (λ i. record { 0 = e i })
 
-pub down-spec : {M : Type 1} → statement M
-down-spec =
+pub down_spec : {M : Type 1} → statement M
+down_spec =
     tie.close (tie.spec (λ c. search rules) (λ c κs. search rules) (λ c. search rules) (λ c κs. search rules) returns
     returns-2)

@@ -9,5 +9,5 @@ returns c = rw c.if1.true
 returns-2 : tie.Need-returns-2
 returns-2 c = rw c.if1.false
 
-pub cell-fits-spec : {M : Type 1} → statement M
-cell-fits-spec = tie.close (tie.spec returns returns-2)
+pub cell_fits_spec : {M : Type 1} → statement M
+cell_fits_spec = tie.close (tie.spec returns returns-2)

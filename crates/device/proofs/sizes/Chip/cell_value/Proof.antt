@@ -10,5 +10,5 @@ returns c = rw c.if1.true (omega arith)
 returns-2 : tie.Need-returns-2
 returns-2 c = rw c.if1.false (omega arith)
 
-pub cell-value-spec : {M : Type 1} → statement M
-cell-value-spec = tie.close (tie.spec returns (λ c. search rules) returns-2)
+pub cell_value_spec : {M : Type 1} → statement M
+cell_value_spec = tie.close (tie.spec returns (λ c. search rules) returns-2)

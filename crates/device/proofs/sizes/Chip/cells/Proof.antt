@@ -9,5 +9,5 @@ returns c = rw c.if1.true
 returns-2 : tie.Need-returns-2
 returns-2 c = rw c.if1.false
 
-pub cells-spec : {M : Type 1} → statement M
-cells-spec = tie.close (tie.spec returns returns-2)
+pub cells_spec : {M : Type 1} → statement M
+cells_spec = tie.close (tie.spec returns returns-2)

@@ -9,5 +9,5 @@ returns : tie.Need-returns
 unfolding fresh_registers
 returns c = rw (c.clear-flags2.ensures, c.before.clear-flags.ensures)
 
-pub fresh-registers-spec : {M : Type 1} → statement M
-fresh-registers-spec = tie.close (tie.spec (λ c κs. search rules) (λ c κs. search rules) returns)
+pub fresh_registers_spec : {M : Type 1} → statement M
+fresh_registers_spec = tie.close (tie.spec (λ c κs. search rules) (λ c κs. search rules) returns)

@@ -9,5 +9,5 @@ returns c = rw c.if1.true
 returns-2 : tie.Need-returns-2
 returns-2 c = rw c.if1.false
 
-pub ram-spec : {M : Type 1} → statement M
-ram-spec = tie.close (tie.spec returns returns-2)
+pub ram_spec : {M : Type 1} → statement M
+ram_spec = tie.close (tie.spec returns returns-2)

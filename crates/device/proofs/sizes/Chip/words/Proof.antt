@@ -9,5 +9,5 @@ returns c = rw c.if1.true
 returns-2 : tie.Need-returns-2
 returns-2 c = rw c.if1.false
 
-pub words-spec : {M : Type 1} → statement M
-words-spec = tie.close (tie.spec returns returns-2)
+pub words_spec : {M : Type 1} → statement M
+words_spec = tie.close (tie.spec returns returns-2)
