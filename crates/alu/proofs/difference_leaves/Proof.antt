@@ -9,7 +9,7 @@ use Rattle.alu.proofs.difference_leaves.Tie as tie
 returns : tie.Need-returns
 returns c =
     let a = c.before.before.args in
-    rw (c.biased2.ensures, c.before.biased.ensures) (sym (leaves-biased _ _ (difference-biased a.x a.y a.k c.before.before.requires)))
+    rw (c.biased-2.ensures, c.before.biased.ensures) (sym (leaves-biased _ _ (difference-biased a.x a.y a.k c.before.before.requires)))
 
 pub difference_leaves_spec : {M : Type 1} → statement M
 difference_leaves_spec =

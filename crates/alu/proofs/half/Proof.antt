@@ -8,7 +8,7 @@ use Rattle.alu.proofs.half.Tie as tie
 
 returns : tie.Need-returns
 returns c =
-    c.keep16.ensures ∙ ap kept16 (rw (shr-back c.before.sign-extend.result 2 (record { sfits = c.before.sign-extend.type-inv }), c.before.sign-extend.ensures))
+    c.keep16.ensures ∙ ap kept16 (rw (shr-back c.before.sign_extend.result 2 (record { sfits = c.before.sign_extend.type_inv }), c.before.sign_extend.ensures))
 
 pub half_spec : {M : Type 1} → statement M
 half_spec = tie.close (tie.spec (λ c κs. search rules) (λ c κs. search rules) returns)

@@ -9,7 +9,7 @@ use Rattle.alu.proofs.sum_leaves.Tie as tie
 returns : tie.Need-returns
 returns c =
     let a = c.before.before.args in
-    rw (c.biased2.ensures, c.before.biased.ensures) (sym (leaves-biased _ _ (sum-biased a.x a.y a.k)))
+    rw (c.biased-2.ensures, c.before.biased.ensures) (sym (leaves-biased _ _ (sum-biased a.x a.y a.k)))
 
 pub sum_leaves_spec : {M : Type 1} → statement M
 sum_leaves_spec =

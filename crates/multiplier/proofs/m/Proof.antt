@@ -12,7 +12,7 @@ returns : tie.Need-returns
 unfolding m_of
 returns c =
     c.keep16.ensures
-    ∙ ap kept16 (shr-back c.before.multiply.result 32768 (record { sfits = c.before.multiply.type-inv }) ∙ ap (λ x. floor_div x 32768) c.before.multiply.ensures)
+    ∙ ap kept16 (shr-back c.before.multiply.result 32768 (record { sfits = c.before.multiply.type_inv }) ∙ ap (λ x. floor_div x 32768) c.before.multiply.ensures)
 
 pub m_spec : {M : Type 1} → statement M
 m_spec = tie.close (tie.spec (λ c κs. search rules) (λ c κs. search rules) returns)

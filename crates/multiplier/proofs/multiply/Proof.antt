@@ -12,21 +12,21 @@ use Rattle.multiplier.proofs.Halves.{product-fits}
 use Rattle.multiplier.proofs.multiply.Statement.{statement}
 use Rattle.multiplier.proofs.multiply.Tie as tie
 
-module _ (c : tie.After-sign-extend2) where
-  read : to_z w32 (of_z w32 c.before.sign-extend.result) *ℤ to_z w32 (of_z w32 c.sign-extend2.result) ≡ product c.before.before.args.k c.before.before.args.l
+module _ (c : tie.After-sign_extend-2) where
+  read : to_z w32 (of_z w32 c.before.sign_extend.result) *ℤ to_z w32 (of_z w32 c.sign_extend-2.result) ≡ product c.before.before.args.k c.before.before.args.l
   unfolding product
   read =
       rw (
-        back c.before.sign-extend.result (record { sfits = c.before.sign-extend.type-inv }),
-        back c.sign-extend2.result (record { sfits = c.sign-extend2.type-inv }),
-        c.before.sign-extend.ensures,
-        c.sign-extend2.ensures,
+        back c.before.sign_extend.result (record { sfits = c.before.sign_extend.type_inv }),
+        back c.sign_extend-2.result (record { sfits = c.sign_extend-2.type_inv }),
+        c.before.sign_extend.ensures,
+        c.sign_extend-2.ensures,
       )
 
   fits : SFits w32 (product c.before.before.args.k c.before.before.args.l)
   fits = product-fits _ _
 
-mul-result : tie.Need-overflow-mul-result
+mul-result : tie.Need-overflow_mul-result
 mul-result c = rw (read c) (fits c)
 
 returns : tie.Need-returns

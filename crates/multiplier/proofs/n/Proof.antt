@@ -15,7 +15,7 @@ returns : tie.Need-returns
 unfolding n_of
 returns c =
     let z = c.before.multiply.result in
-    let h : SFits w32 z = record { sfits = c.before.multiply.type-inv } in
+    let h : SFits w32 z = record { sfits = c.before.multiply.type_inv } in
     rw (c.keep16.ensures, back z h, c.before.multiply.ensures) (ap (λ n. n * 2) (low-15 (product c.before.before.args.k c.before.before.args.l)))
 
 pub n_spec : {M : Type 1} → statement M
