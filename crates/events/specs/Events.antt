@@ -9,7 +9,7 @@ use Rattle.status.specs.Status.{without_ei}
 -- not "event kind over 7, or value not allowed" (refusal 3): what each kind allows
 abbrev pub allowed : ℕ → ℕ → Bool
 allowed kind value =
-    slice_index_or (nat_le value 65535 ∷ value == 0 ∷ nat_le value 255 ∷ value == 0 ∷ nat_le value 65535 ∷ value == 0 ∷ value == 0 ∷ value == 0 ∷ []) kind false
+    slice_index_or (nat_le value 65535 ∷ (value == 0) ∷ nat_le value 255 ∷ (value == 0) ∷ nat_le value 65535 ∷ (value == 0) ∷ (value == 0) ∷ (value == 0) ∷ []) kind false
 
 -- event 4: "serial word in: SI takes the value .., SIACK set"
 abbrev pub serial_in : Registers → ℕ → Registers

@@ -12,6 +12,7 @@ fn high_byte(sr: u16) -> bool
 }
 
 // SR after an access.
+#[tactic(auto, unfolding(crate::specs::Host::status_accessed))]
 fn status_accessed(sr: u16) -> u16
     ensures { result ≡ spec.status_accessed sr }
 {
@@ -27,6 +28,7 @@ fn status_accessed(sr: u16) -> u16
     low_byte
 }
 
+#[tactic(auto, unfolding(crate::specs::Host::byte_read))]
 pub fn byte_read(r: Registers) -> u16
     ensures { result ≡ spec.byte_read r }
 {
@@ -37,6 +39,7 @@ pub fn byte_read(r: Registers) -> u16
 }
 
 // DR with a byte written.
+#[tactic(auto, unfolding(crate::specs::Host::dr_written))]
 fn dr_written(r: Registers, byte: u8) -> u16
     ensures { result ≡ spec.dr_written r byte }
 {

@@ -54,6 +54,7 @@ pub fn interrupt(r: Registers) -> Registers
     q
 }
 
+#[tactic(auto, unfolding(crate::specs::Events::reset, device::specs::Registers::fresh_registers))]
 pub fn reset_machine(r: Registers) -> Registers
     ensures { result ≡ spec.reset r }
 {

@@ -45,6 +45,7 @@ fn is_as_asked(flag: bool, n: u8) -> bool
     flag == (n % 2 == 1)
 }
 
+#[tactic(auto, unfolding(crate::specs::Conditions::condition_holds))]
 pub fn condition_holds(r: Registers, cnd: u8) -> bool
     ensures { result ≡ condition_holds r cnd }
 {

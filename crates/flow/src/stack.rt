@@ -5,6 +5,7 @@ ghost use Rattle.flow.specs.Stack.{pushed, popped, stepped};
 use device::{InstructionAddress, Registers};
 
 // The address in the stack cell numbered by the depth, which goes up; nothing where there is no such cell.
+#[tactic(auto, unfolding(crate::specs::Stack::pushed))]
 pub fn push(r: Registers, address: InstructionAddress) -> Registers
     ensures { result ≡ pushed r address }
 {
