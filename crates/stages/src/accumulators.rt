@@ -8,6 +8,7 @@ use alu::{Accumulator, Operation, Plan};
 use device::{BothFlags, Registers};
 
 // The P input. Halves first: a match of four arms becomes a jump through a table.
+#[tactic(auto, unfolding(crate::specs::Accumulators::operand_of))]
 fn operand(r: Registers, psel: u32, bus: u16, ram: &[u16]) -> u16
     ensures { result ≡ operand_of r psel bus ram.now }
 {
@@ -77,6 +78,7 @@ fn operate_b(r: Registers, operation: Operation, p: u16) -> Registers
 }
 
 // The operation of an OP or RT word w, unless its accumulator is the destination.
+#[tactic(auto, unfolding(crate::specs::Accumulators::accumulated))]
 pub fn accumulate(large: bool, r: Registers, w: u32, bus: u16, ram: &[u16]) -> Registers
     ensures { result ≡ accumulated r r (op_fields large w) bus ram.now }
 {

@@ -12,6 +12,7 @@ fn trb_or_none(large: bool, trb: u16) -> u16
     if large { trb } else { 0 }
 }
 
+#[tactic(auto, unfolding(crate::specs::Bus::bus_of))]
 pub fn bus_value(
     large: bool,
     r: Registers,
@@ -43,6 +44,7 @@ pub fn bus_value(
 }
 
 // Reading DR sets RQM; SIM and SIL clear SIACK. The arms meet before the record is handed back, as in `load`.
+#[tactic(auto, unfolding(crate::specs::Bus::read_from))]
 pub fn read_from(r: Registers, source: Source) -> Registers
     ensures { result ≡ read_from r source }
 {

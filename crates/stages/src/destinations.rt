@@ -13,6 +13,7 @@ fn klm_address(dp: RamPointer) -> u16
 }
 
 // The arms meet before the record is handed back: handed back in each, it is copied in each.
+#[tactic(auto, unfolding(crate::specs::Destinations::loaded, crate::specs::Destinations::ram_loaded))]
 pub fn load(
     large: bool,
     r: Registers,
