@@ -48,3 +48,7 @@ digits-go l i h d = digits_step l i h ∙ ap (λ (b : Bool). b && all_digits (dr
 
 pub digits-stop : (l : List ℕ) (i : ℕ) → i < length l → 16 ≤ digit (get_or l i 0) → all_digits (drop i l) ≡ false
 digits-stop l i h d = digits_step l i h ∙ ap (λ (b : Bool). b && all_digits (drop (i + 1) l)) (le-ltb _ _ d)
+
+-- what the loop of `all_digits` uses, and what that of `sum` uses
+pub ruleset digits = (digits-end, digits-go, digits-stop)
+pub ruleset totals = (total-step, total-end)

@@ -56,3 +56,7 @@ missing-go g i h e = missing-step g i h ∙ ap (λ (b : Bool). b || missing (dro
 pub missing-end : (g : List ℕ) (i : ℕ) → length g ≤ i → missing (drop i g) ≡ false
 unfolding missing
 missing-end g i h = rw (drop_of_length-le g h)
+
+-- what the loop of `give` uses, and what that of `missing` uses
+pub ruleset giving = (give-go, give-stop, give-outside, give-end)
+pub ruleset missings = (missing-go, missing-stop, missing-end)

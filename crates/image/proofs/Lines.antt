@@ -81,3 +81,6 @@ module _ (t : List ℕ) (from : ℕ) (h : from < length t) where
 
   pub line-some : 0 < length (first_line (drop from t))
   line-some = omega (arith, line-length, length_some (drop from t) (rw length-drop (omega arith)))
+
+-- what the loop of `line_end` uses
+pub ruleset lengths = (length-stop, length-go, length-end)

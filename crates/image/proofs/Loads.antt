@@ -77,3 +77,6 @@ pub load-by : (form : List ℕ → Record) (width size : ℕ) (text other image 
     → load form width size other image ≡ load form width size text image
 unfolding load
 load-by form width size text other image e = rw e
+
+-- what `load_cells` and `load_data` use
+pub ruleset loads = (load-short, load-all)

@@ -148,3 +148,7 @@ pub head-by : (l m : List ℕ) → formed m ≡ formed l → checked m ≡ check
     → record_head m ≡ record_head l
 unfolding record_head said
 head-by l m f c b = rw (f, c, b 1 (omega arith), b 3 (omega arith), b 5 (omega arith), b 7 (omega arith))
+
+-- what `record_head` uses, and what `data_part` uses
+pub ruleset heads = (formed-has)
+pub ruleset parts = (part-refused, start-good, part-within)

@@ -3,6 +3,7 @@ ghost use Rattle.std.specs.Prelude.{◌≡◌, ◌+◌, ◌%◌, ◌<◌, ◌≤
 ghost use Rattle.image.specs.Hexadecimal as spec;
 
 // The value of a digit; 16 for any other character.
+#[tactic(auto, unfolding(crate::specs::Hexadecimal::digit))]
 pub(crate) fn digit(c: u8) -> u8
     ensures { (result ≡ spec.digit c) × (result ≤ 16) }
 {
@@ -27,6 +28,7 @@ pub(crate) fn digit(c: u8) -> u8
     16
 }
 
+#[tactic(auto, unfolding(crate::specs::Hexadecimal::byte))]
 pub(crate) fn byte(high: u8, low: u8) -> u8
     ensures { result ≡ spec.byte high low }
 {
@@ -35,6 +37,7 @@ pub(crate) fn byte(high: u8, low: u8) -> u8
     (((h as u16) * 16 + (l as u16)) % 256) as u8
 }
 
+#[tactic(auto, unfolding(crate::specs::Hexadecimal::byte_at))]
 pub(crate) fn byte_at(line: &[u8], place: usize) -> u8
     requires { place + 1 < length line.now }
     ensures { result ≡ spec.byte_at line.now place }
@@ -43,6 +46,7 @@ pub(crate) fn byte_at(line: &[u8], place: usize) -> u8
     byte(line[place], line[next])
 }
 
+#[tactic(auto, using(crate::proofs::Characters::digits))]
 pub(crate) fn all_digits(characters: &[u8]) -> bool
     ensures { result ≡ spec.all_digits characters.now }
 {
@@ -57,6 +61,7 @@ pub(crate) fn all_digits(characters: &[u8]) -> bool
 }
 
 // The sum of the bytes that the characters spell, modulo 256.
+#[tactic(auto, using(crate::proofs::Characters::totals))]
 pub(crate) fn sum(characters: &[u8]) -> u8
     ensures { result ≡ spec.total (spec.bytes_of characters.now) % 256 }
 {

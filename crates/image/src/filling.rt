@@ -79,6 +79,7 @@ pub(crate) fn load_with(text: &[u8], given: &mut [u16], image: &mut [u16]) -> Lo
 }
 
 // The same of up to as many cells as a data ROM has.
+#[tactic(auto, using(crate::proofs::Loads::loads))]
 pub fn load_cells(text: &[u8], image: &mut [u16]) -> Loading
     ensures { spec.loaded result image.new ≡ spec.load intel_hex 2 (min (length image.old) upd77p20.cells) text.now image.old }
 {
@@ -92,6 +93,7 @@ pub fn load_cells(text: &[u8], image: &mut [u16]) -> Loading
 }
 
 // Fills a lent data ROM.
+#[tactic(auto, using(crate::proofs::Loads::loads))]
 pub fn load_data(text: &[u8], image: &mut [u16]) -> Loading
     ensures { spec.loaded result image.new ≡ spec.load intel_hex 2 upd77p20.cells text.now image.old }
 {

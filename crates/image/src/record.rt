@@ -15,6 +15,7 @@ pub struct RecordHead {
 }
 
 // Where the line's ending begins.
+#[tactic(auto, unfolding(crate::specs::IntelHex::ending))]
 pub(crate) fn ending(line: &[u8]) -> usize
     requires { 2 ≤ length line.now }
     ensures { result ≡ spec.ending line.now }
@@ -36,6 +37,7 @@ pub(crate) fn characters(line: &[u8]) -> &[u8]
     &line[1..e]
 }
 
+#[tactic(auto, unfolding(crate::specs::IntelHex::formed))]
 pub(crate) fn formed(line: &[u8]) -> bool
     ensures { result ≡ spec.formed line.now }
 {
@@ -73,6 +75,7 @@ pub(crate) fn refused(number: u8) -> RecordHead
 }
 
 // What a record with a good check byte says of itself.
+#[tactic(auto, unfolding(crate::specs::IntelHex::said))]
 pub(crate) fn said(line: &[u8]) -> RecordHead
     requires { 12 ≤ length line.now }
     ensures { result ≡ spec.said line.now }
@@ -92,6 +95,7 @@ pub(crate) fn said(line: &[u8]) -> RecordHead
     }
 }
 
+#[tactic(auto, using(crate::proofs::Records::heads), unfolding(crate::specs::IntelHex::record_head))]
 pub fn record_head(line: &[u8]) -> RecordHead
     ensures { result ≡ spec.record_head line.now }
 {
@@ -116,6 +120,7 @@ pub(crate) fn data_characters(line: &[u8], bytes: u8) -> &[u8]
 }
 
 // The record's data characters, the very part of the caller's line.
+#[tactic(auto, using(crate::proofs::Records::parts))]
 pub fn data_part(line: &[u8]) -> &[u8]
     ensures content { result.now ≡ spec.data_part line.now }
     ensures allocation { result.ref_ptr.0 ≡ line.entry.ref_ptr.0 }

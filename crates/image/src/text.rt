@@ -26,6 +26,7 @@ pub(crate) fn ending_at(line: usize, number: u8) -> Loading
 }
 
 // Where the line that begins at `at` ends, past its line feed.
+#[tactic(auto, using(crate::proofs::Lines::lengths))]
 pub(crate) fn line_end(text: &[u8], at: usize) -> usize
     requires { at ≤ length text.now }
     ensures { result ≡ at + lines.line_length (drop at text.now) }
@@ -50,6 +51,7 @@ pub(crate) fn line_from(text: &[u8], at: usize) -> &[u8]
 }
 
 // Puts the bytes that the characters spell at their addresses, where 256 says that none was given yet. Answers 15 or 0.
+#[tactic(auto, using(crate::proofs::Giving::giving))]
 pub(crate) fn give(characters: &[u8], start: usize, given: &mut [u16]) -> u8
     requires { start < 65536 }
     ensures { spec.given result given.new ≡ spec.give start (bytes_of characters.now) given.old }
@@ -73,6 +75,7 @@ pub(crate) fn give(characters: &[u8], start: usize, given: &mut [u16]) -> u8
 }
 
 // Whether no byte was given for some address.
+#[tactic(auto, using(crate::proofs::Giving::missings))]
 pub(crate) fn missing(given: &[u16]) -> bool
     ensures { result ≡ spec.missing given.now }
 {
@@ -87,6 +90,7 @@ pub(crate) fn missing(given: &[u16]) -> bool
 }
 
 // After the end record in line `line`, with text after it or not.
+#[tactic(auto, unfolding(crate::specs::Image::ended))]
 pub(crate) fn ended(line: usize, after: bool, given: &[u16]) -> Loading
     requires { line < 18446744073709551615 }
     ensures { result ≡ spec.ended line after given.now }
@@ -101,6 +105,7 @@ pub(crate) fn ended(line: usize, after: bool, given: &[u16]) -> Loading
 }
 
 // After the last line of a text without an end record.
+#[tactic(auto, unfolding(crate::specs::Image::unended))]
 pub(crate) fn unended(line: usize, given: &[u16]) -> Loading
     ensures { result ≡ spec.unended line given.now }
 {
