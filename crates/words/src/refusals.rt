@@ -46,6 +46,7 @@ fn cell_refused(large: bool, r: Registers, w: u32, rom: &[u16]) -> bool
     false
 }
 
+#[tactic(auto, unfolding(crate::specs::Refusals::op_refusal))]
 pub(crate) fn op_refusal(large: bool, r: Registers, w: u32, rom: &[u16]) -> u8
     ensures { result ≡ spec.op_refusal large (nat_le 2097152 (aligned large w)) r (op_fields large w) rom.now }
 {
@@ -71,6 +72,7 @@ pub(crate) fn jp_unused_bits(large: bool, w: u32, unconditional: bool) -> bool
     (word::bits(w, 3, 0) != 0) | (unconditional & (word::bits(w, 17, 13) != 0))
 }
 
+#[tactic(auto, unfolding(crate::specs::Refusals::ldi_refusal))]
 pub(crate) fn ldi_refusal(large: bool, r: Registers, w: u32, rom: &[u16]) -> u8
     ensures { result ≡ spec.ldi_refusal large r (ldi_fields large w) rom.now }
 {
