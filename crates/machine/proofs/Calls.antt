@@ -1,12 +1,12 @@
 -- A call is refused by refusal 1, 2 or 3, or the event of its kind is done.
 -- Assumes nothing.
-use Prim.Native.Nat.{ℕ, ◌<◌}
+use Prim.Native.Nat.{ℕ, ◌<◌, ◌≤◌}
 use native.Mathlib.Omega.{arith}
 use mathlib.Core.Path.{◌≡◌, sym, ap, ◌∙◌}
 use mathlib.Core.Bool.{Bool, true, false}
 use mathlib.Core.List.{List}
 use borrow.Author.Tests.{leb-true}
-use Rattle.numbers.proofs.Codes.{Misses, past}
+use lib.ListN.{get_or-eq_default}
 use Rattle.device.specs.Device.{chip}
 use Rattle.device.specs.Registers.{registers_fit}
 use Rattle.device.specs.declared.registers.Registers.{Registers}
@@ -35,9 +35,9 @@ module _ (large : Bool) (r : Registers) (trb : ℕ) (program rom ram : List ℕ)
       call-done e = rw (long, fit, e)
 
   -- a kind that is none of the others is the reset
-  pub kind-reset : Misses 7 kind → finished_call 0 (reset r) trb ram ≡ kind_done large kind value r trb program rom ram
+  pub kind-reset : 7 ≤ kind → finished_call 0 (reset r) trb ram ≡ kind_done large kind value r trb program rom ram
   unfolding kind_done
-  kind-reset h = past (kinds large value r trb program rom ram) (finished_call 0 (reset r) trb ram) kind h
+  kind-reset h = sym (get_or-eq_default (kinds large value r trb program rom ram) (finished_call 0 (reset r) trb ram) {n = kind} h)
 
 pub call-refused : CallRefused
 call-refused large r trb program rom ram kind value =
