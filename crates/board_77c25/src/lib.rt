@@ -83,6 +83,7 @@ pub extern "C" fn bemulatsho_77c25_event_in_place(
     a.reply
 }
 
+#[tactic(auto, unfolding(crate::specs::LargeRegisters::fresh_large_registers))]
 #[unsafe(no_mangle)]
 pub extern "C" fn bemulatsho_77c25_fresh_registers() -> LargeRegisters
     ensures { result ≡ fresh_large_registers }
@@ -132,6 +133,7 @@ pub extern "C" fn bemulatsho_77c25_take_apart(word: u32) -> TakenLargeRows
     }
 }
 
+#[tactic(auto, unfolding(crate::specs::LargeRows::built_large_rows))]
 #[unsafe(no_mangle)]
 pub extern "C" fn bemulatsho_77c25_build(rows: LargeRows) -> Built
     ensures { result ≡ built_large_rows rows }
