@@ -76,6 +76,7 @@ pub struct Built {
 }
 
 // Bits D`high` to D`low` of a word.
+#[tactic(auto, using(crate::proofs::Shifts::beyond_top, crate::proofs::Shifts::to_the_top))]
 pub fn bits(word: u32, high: u32, low: u32) -> u32
     ensures { result ≡ place.bits word high low }
 {
