@@ -46,3 +46,6 @@ module _ (ram buffer : List ℕ) where
           (e ∙ ap (λ (bs : List ℕ). sets buffer 0 (text_of bs)) are ∙ sets-eq (preset_text ram) buffer 0 (omega (arith, k))
           ∙ ap (λ (j : ℕ). preset_text ram ++ drop j buffer) k)
           ∙ sym (is-written h)
+
+-- what `write_preset` uses
+pub ruleset writings = (other_length, too_short, ram-text, all-written)

@@ -54,3 +54,8 @@ cell-next xs l i h small =
 pub cells-done : (xs l : List ℕ) (k i : ℕ) → length xs ≤ i → sets l k (cell_bytes 2 (drop i xs)) ≡ l
 unfolding cell_bytes
 cells-done xs l k i h = rw (drop_of_length-le xs {i = i} h)
+
+-- what the loop of `put_bytes` uses, and what that of `sum` uses
+pub ruleset bytes = (spelled-next, spelled-done)
+
+pub ruleset totals = (total-next, total-done)

@@ -5,6 +5,7 @@ ghost use Rattle.image.specs.Hexadecimal.{total};
 ghost use Rattle.preset.specs.Written as spec;
 
 // A digit in capitals.
+#[tactic(auto, unfolding(crate::specs::Written::capital))]
 pub(crate) fn capital(digit: u8) -> u8
     requires { digit < 16 }
     ensures { result ≡ spec.capital digit }
@@ -16,6 +17,7 @@ pub(crate) fn capital(digit: u8) -> u8
 }
 
 // A byte's two digits.
+#[tactic(auto, unfolding(crate::specs::Written::spelled))]
 pub(crate) fn put_byte(byte: u8, text: &mut [u8], at: usize)
     requires { at + 1 < length text.old }
     ensures { text.new ≡ sets text.old at (spec.spelled (byte ∷ [])) }
@@ -25,6 +27,7 @@ pub(crate) fn put_byte(byte: u8, text: &mut [u8], at: usize)
     text[next] = capital(byte % 16);
 }
 
+#[tactic(auto, using(crate::proofs::Stores::bytes))]
 pub(crate) fn put_bytes(bytes: &[u8], text: &mut [u8], at: usize)
     requires { at + 2 * length bytes.now ≤ length text.old }
     ensures { text.new ≡ sets text.old at (spec.spelled bytes.now) }
@@ -37,6 +40,7 @@ pub(crate) fn put_bytes(bytes: &[u8], text: &mut [u8], at: usize)
 }
 
 // The sum of bytes modulo 256.
+#[tactic(auto, using(crate::proofs::Stores::totals))]
 pub(crate) fn sum(bytes: &[u8]) -> u8
     ensures { result ≡ total bytes.now % 256 }
 {

@@ -6,6 +6,7 @@ ghost use Rattle.preset.specs.Preset.{load_preset};
 use device::Upd77p20;
 use image::Loading;
 
+#[tactic(auto, using(image::proofs::Loads::loads))]
 pub fn load_preset(text: &[u8], ram: &mut [u16]) -> Loading
     ensures { loaded result ram.new ≡ load_preset text.now ram.old }
 {

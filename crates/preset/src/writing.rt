@@ -29,6 +29,7 @@ pub(crate) fn put_cells(cells: &[u16], bytes: &mut [u8])
     }
 }
 
+#[tactic(auto, using(crate::proofs::Buffers::writings))]
 pub fn write_preset(ram: &[u16], text: &mut [u8]) -> Writing
     ensures { spec.written result text.new ≡ spec.write_preset ram.now text.old }
 {
