@@ -7,6 +7,7 @@ mod paper;
 use device::{Chip, RamPointer, Registers, Upd77p20};
 use machine::AfterEvent;
 use paper::{flag, number, register, text};
+use std::io;
 use word::Word;
 
 // OP words that are used more than once: ADD of RAM at DP, of M and of N to A; the first also with DP up.
@@ -37,7 +38,7 @@ fn run_one(r: Registers, word: u32) -> AfterEvent {
 }
 
 // Case 1: word 0 on registers that are not 0.
-fn word_0() {
+fn word_0(rt: &impl Print) -> io::Result<()> {
     let mut r = Chip::fresh_registers();
     r.a = 0x1234;
     let dp = RamPointer(0x7f);
@@ -45,54 +46,54 @@ fn word_0() {
     r.sr = 0x8080;
     let after = run_one(r, 0);
     let q = after.registers;
-    register(1, b"word 0: words done        ", 1, after.words);
-    register(1, b"word 0: PC                ", 1, q.pc.0);
-    register(1, b"word 0: A, 1234H before   ", 0x1234, q.a);
-    register(1, b"word 0: DP, 7FH before    ", 0x7f, q.dp.0);
-    register(1, b"word 0: SR, 8080H before  ", 0x8080, q.sr);
+    register(rt, 1, "word 0: words done        ", 1, after.words)?;
+    register(rt, 1, "word 0: PC                ", 1, q.pc.0)?;
+    register(rt, 1, "word 0: A, 1234H before   ", 0x1234, q.a)?;
+    register(rt, 1, "word 0: DP, 7FH before    ", 0x7f, q.dp.0)?;
+    register(rt, 1, "word 0: SR, 8080H before  ", 0x8080, q.sr)
 }
 
 // Case 2: what the two words do.
-fn jump_and_load() {
+fn jump_and_load(rt: &impl Print) -> io::Result<()> {
     let jumped = run_one(Chip::fresh_registers(), 0x501000);
     let q = jumped.registers;
-    register(2, b"501000H run: PC           ", 0x100, q.pc.0);
+    register(rt, 2, "501000H run: PC           ", 0x100, q.pc.0)?;
     let loaded = run_one(Chip::fresh_registers(), 0x624681);
     let q = loaded.registers;
-    register(2, b"624681H run: A            ", 0x1234, q.a);
+    register(rt, 2, "624681H run: A            ", 0x1234, q.a)
 }
 
 // Case 9: two bytes for the host.
-fn host_reads() {
+fn host_reads(rt: &impl Print) -> io::Result<()> {
     let program = [0u32; Upd77p20::WORDS as usize];
     let rom = [0u16; Upd77p20::CELLS as usize];
     let mut ram = [0u16; Upd77p20::RAM as usize];
     let mut r = Chip::fresh_registers();
     r.dr = 0x1234;
     let low = machine::event(false, r, 0, &program, &rom, &mut ram, 1, 0);
-    register(9, b"DR 1234H: first byte      ", 0x34, low.value);
+    register(rt, 9, "DR 1234H: first byte      ", 0x34, low.value)?;
     let q = low.registers;
     let high = machine::event(false, q, 0, &program, &rom, &mut ram, 1, 0);
-    register(9, b"DR 1234H: second byte     ", 0x12, high.value);
+    register(rt, 9, "DR 1234H: second byte     ", 0x12, high.value)
 }
 
 // Case 2: what the two words hold. BRCH 4 is the jump, DST 1 is A.
-fn words() {
+fn words(rt: &impl Print) -> io::Result<()> {
     let jump = word::take_apart(false, 0x501000);
     let row = jump.word;
     if let Word::Jp(f) = row {
-        register(2, b"501000H: BRCH             ", 4, f.brch as u16);
-        register(2, b"501000H: NA               ", 0x100, f.na);
+        register(rt, 2, "501000H: BRCH             ", 4, f.brch as u16)?;
+        register(rt, 2, "501000H: NA               ", 0x100, f.na)?;
     } else {
-        text(b"  2   501000H is no JP word   DIFFERS\n");
+        text(rt, "  2   501000H is no JP word   DIFFERS\n")?;
     }
     let load = word::take_apart(false, 0x624681);
     let row = load.word;
     if let Word::Ldi(f) = row {
-        register(2, b"624681H: ID               ", 0x1234, f.id);
-        register(2, b"624681H: DST              ", 1, f.dst as u16);
+        register(rt, 2, "624681H: ID               ", 0x1234, f.id)?;
+        register(rt, 2, "624681H: DST              ", 1, f.dst as u16)
     } else {
-        text(b"  2   624681H is no LDI word  DIFFERS\n");
+        text(rt, "  2   624681H is no LDI word  DIFFERS\n")
     }
 }
 
@@ -107,31 +108,35 @@ fn added(k: u16, l: u16, word: u32) -> u16 {
 }
 
 // Case 3: the two products.
-fn products() {
+fn products(rt: &impl Print) -> io::Result<()> {
     register(
+        rt,
         3,
-        b"8000H times 8000H: M      ",
+        "8000H times 8000H: M      ",
         0x8000,
         added(0x8000, 0x8000, ADD_M),
-    );
+    )?;
     register(
+        rt,
         3,
-        b"8000H times 8000H: N      ",
+        "8000H times 8000H: N      ",
         0,
         added(0x8000, 0x8000, ADD_N),
-    );
+    )?;
     register(
+        rt,
         3,
-        b"FFFFH times 1: M          ",
+        "FFFFH times 1: M          ",
         0xffff,
         added(0xffff, 1, ADD_M),
-    );
+    )?;
     register(
+        rt,
         3,
-        b"FFFFH times 1: N          ",
+        "FFFFH times 1: N          ",
         0xfffe,
         added(0xffff, 1, ADD_N),
-    );
+    )
 }
 
 // A fresh machine but for A.
@@ -142,68 +147,68 @@ fn with_a(a: u16) -> Registers {
 }
 
 // Cases 4 and 5: sums that leave 16 bits.
-fn sums() {
+fn sums(rt: &impl Print) -> io::Result<()> {
     let once = run(with_a(0x7fff), [ADD_RAM_UP, ADD_RAM, 0], 1, 0x7fff, 0x8000);
     let q = once.registers;
     let flags = q.flags;
     let f = flags.a;
-    register(4, b"7FFFH ADD 7FFFH: A        ", 0xfffe, q.a);
-    flag(4, b"7FFFH ADD 7FFFH: C        ", false, f.c);
-    flag(4, b"7FFFH ADD 7FFFH: OV1      ", true, f.ov1);
-    flag(4, b"7FFFH ADD 7FFFH: S1       ", true, f.s1);
+    register(rt, 4, "7FFFH ADD 7FFFH: A        ", 0xfffe, q.a)?;
+    flag(rt, 4, "7FFFH ADD 7FFFH: C        ", false, f.c)?;
+    flag(rt, 4, "7FFFH ADD 7FFFH: OV1      ", true, f.ov1)?;
+    flag(rt, 4, "7FFFH ADD 7FFFH: S1       ", true, f.s1)?;
     let twice = run(with_a(0x7fff), [ADD_RAM_UP, ADD_RAM, 0], 2, 0x7fff, 0x8000);
     let q = twice.registers;
     let flags = q.flags;
     let f = flags.a;
-    register(4, b"then ADD 8000H: A         ", 0x7ffe, q.a);
-    flag(4, b"then ADD 8000H: C         ", true, f.c);
-    flag(4, b"then ADD 8000H: OV1       ", false, f.ov1);
-    flag(4, b"then ADD 8000H: S1        ", true, f.s1);
+    register(rt, 4, "then ADD 8000H: A         ", 0x7ffe, q.a)?;
+    flag(rt, 4, "then ADD 8000H: C         ", true, f.c)?;
+    flag(rt, 4, "then ADD 8000H: OV1       ", false, f.ov1)?;
+    flag(rt, 4, "then ADD 8000H: S1        ", true, f.s1)?;
     let least = run(with_a(0x8000), [ADD_RAM, 0, 0], 1, 0x8000, 0);
     let q = least.registers;
     let flags = q.flags;
     let f = flags.a;
-    register(5, b"8000H ADD 8000H: A        ", 0, q.a);
-    flag(5, b"8000H ADD 8000H: Z        ", true, f.z);
-    flag(5, b"8000H ADD 8000H: C        ", true, f.c);
-    flag(5, b"8000H ADD 8000H: OV1      ", true, f.ov1);
-    flag(5, b"8000H ADD 8000H: S1       ", false, f.s1);
+    register(rt, 5, "8000H ADD 8000H: A        ", 0, q.a)?;
+    flag(rt, 5, "8000H ADD 8000H: Z        ", true, f.z)?;
+    flag(rt, 5, "8000H ADD 8000H: C        ", true, f.c)?;
+    flag(rt, 5, "8000H ADD 8000H: OV1      ", true, f.ov1)?;
+    flag(rt, 5, "8000H ADD 8000H: S1       ", false, f.s1)
 }
 
 // Case 6: SHR1, SHL2 and SHL4 of A.
-fn shifts() {
+fn shifts(rt: &impl Print) -> io::Result<()> {
     let after = run_one(with_a(0x8001), 0x058000);
     let q = after.registers;
     let flags = q.flags;
     let f = flags.a;
-    register(6, b"SHR1 of 8001H: A          ", 0xc000, q.a);
-    flag(6, b"SHR1 of 8001H: C          ", true, f.c);
+    register(rt, 6, "SHR1 of 8001H: A          ", 0xc000, q.a)?;
+    flag(rt, 6, "SHR1 of 8001H: C          ", true, f.c)?;
     let after = run_one(with_a(1), 0x068000);
     let q = after.registers;
-    register(6, b"SHL2 of 1: A              ", 7, q.a);
+    register(rt, 6, "SHL2 of 1: A              ", 7, q.a)?;
     let after = run_one(with_a(1), 0x070000);
     let q = after.registers;
-    register(6, b"SHL4 of 1: A              ", 0x1f, q.a);
+    register(rt, 6, "SHL4 of 1: A              ", 0x1f, q.a)
 }
 
 // Case 7: one word with DPL up, DPH-M 1 and RPDCR.
-fn pointers() {
+fn pointers(rt: &impl Print) -> io::Result<()> {
     let mut r = Chip::fresh_registers();
     let dp = RamPointer(0x0f);
     r.dp = dp;
     let after = run_one(r, 0x001300);
     let q = after.registers;
-    register(7, b"DP 0FH, up, DPH-M 1: DP   ", 0x10, q.dp.0);
-    register(7, b"RP 0 down: RP             ", 511, q.rp.0);
+    register(rt, 7, "DP 0FH, up, DPH-M 1: DP   ", 0x10, q.dp.0)?;
+    register(rt, 7, "RP 0 down: RP             ", 511, q.rp.0)
 }
 
 // Case 8: SIL to A.
-fn reversed() {
+fn reversed(rt: &impl Print) -> io::Result<()> {
     let mut r = Chip::fresh_registers();
     r.si = 1;
     let after = run_one(r, 0x0000c1);
     let q = after.registers;
-    register(8, b"SIL of 1                  ", 0x8000, q.a);
+    register(rt, 8, "SIL of 1                  ", 0x8000, q.a)
 }
 
 // A register's signed value in 32768ths, and the exact product of K and L, which M and half of N make up: both modulo 2^64.
@@ -218,7 +223,7 @@ fn exact_product(k: u16, l: u16) -> u64 {
 }
 
 // Case 10: three words that add M to A, and how far the exact sum is above A, in 32768ths.
-fn three_adds() {
+fn three_adds(rt: &impl Print) -> io::Result<()> {
     let mut r = Chip::fresh_registers();
     r.k = 0xffff;
     r.l = 1;
@@ -226,24 +231,24 @@ fn three_adds() {
     let q = after.registers;
     let f = q.flags;
     let a = f.a;
-    register(10, b"FFFFH times 1, 3 adds: A  ", 0xfffd, q.a);
-    flag(10, b"FFFFH times 1, 3 adds: OV1", false, a.ov1);
+    register(rt, 10, "FFFFH times 1, 3 adds: A  ", 0xfffd, q.a)?;
+    flag(rt, 10, "FFFFH times 1, 3 adds: OV1", false, a.ov1)?;
     let product = exact_product(0xffff, 1);
     let sum = std::num::wrapping_add_u64(product, std::num::wrapping_add_u64(product, product));
     let distance = std::num::wrapping_sub_u64(sum, in_32768ths(q.a));
-    number(10, b"the distance              ", 98301, distance);
+    number(rt, 10, "the distance              ", 98301, distance)
 }
 
-fn main() {
-    text(b"case  what                        expected  found\n");
-    word_0();
-    words();
-    jump_and_load();
-    products();
-    sums();
-    shifts();
-    pointers();
-    reversed();
-    host_reads();
-    three_adds();
+fn main(rt: HostRuntime) -> io::Result<()> {
+    text(&rt, "case  what                        expected  found\n")?;
+    word_0(&rt)?;
+    words(&rt)?;
+    jump_and_load(&rt)?;
+    products(&rt)?;
+    sums(&rt)?;
+    shifts(&rt)?;
+    pointers(&rt)?;
+    reversed(&rt)?;
+    host_reads(&rt)?;
+    three_adds(&rt)
 }

@@ -1,8 +1,8 @@
 // How a line of the list is printed.
-use libc::STDOUT_FILENO;
+use std::io;
 
-pub(crate) fn text(words: &[u8]) {
-    io::write_all(STDOUT_FILENO, words);
+pub(crate) fn text(rt: &impl Print, words: &str) -> io::Result<()> {
+    print!(rt; "{words}")
 }
 
 // A hexadecimal digit as the manual writes it.
@@ -14,66 +14,81 @@ fn digit(n: u16) -> u8 {
     }
 }
 
-fn print_register(value: u16) {
+fn print_register(rt: &impl Print, value: u16) -> io::Result<()> {
     let digits = [
         digit(value / 4096),
         digit(value / 256),
         digit(value / 16),
         digit(value),
     ];
-    text(&digits);
-    text(b"H");
+    for it in digits {
+        print!(rt; "{}", char::from(it))?;
+    }
+    text(rt, "H")
 }
 
-fn print_flag(value: bool) {
+fn print_flag(rt: &impl Print, value: bool) -> io::Result<()> {
     if value {
-        text(b"1    ");
+        text(rt, "1    ")
     } else {
-        text(b"0    ");
+        text(rt, "0    ")
     }
 }
 
-fn heading(case: u64, name: &[u8]) {
+fn heading(rt: &impl Print, case: u64, name: &str) -> io::Result<()> {
     if case < 10 {
-        text(b"  ");
+        text(rt, "  ")?;
     } else {
-        text(b" ");
+        text(rt, " ")?;
     }
-    io::print_decimal(STDOUT_FILENO, case);
-    text(b"   ");
-    text(name);
-    text(b"  ");
+    print!(rt; "{case}   {name}  ")
 }
 
-fn verdict(agrees: bool) {
+fn verdict(rt: &impl Print, agrees: bool) -> io::Result<()> {
     if agrees {
-        text(b"  agrees\n");
+        text(rt, "  agrees\n")
     } else {
-        text(b"  DIFFERS\n");
+        text(rt, "  DIFFERS\n")
     }
 }
 
 // One line of the list each. A name is as long as the heading's.
-pub(crate) fn register(case: u64, name: &[u8], expected: u16, found: u16) {
-    heading(case, name);
-    print_register(expected);
-    text(b"     ");
-    print_register(found);
-    verdict(expected == found);
+pub(crate) fn register(
+    rt: &impl Print,
+    case: u64,
+    name: &str,
+    expected: u16,
+    found: u16,
+) -> io::Result<()> {
+    heading(rt, case, name)?;
+    print_register(rt, expected)?;
+    text(rt, "     ")?;
+    print_register(rt, found)?;
+    verdict(rt, expected == found)
 }
 
-pub(crate) fn flag(case: u64, name: &[u8], expected: bool, found: bool) {
-    heading(case, name);
-    print_flag(expected);
-    text(b"     ");
-    print_flag(found);
-    verdict(expected == found);
+pub(crate) fn flag(
+    rt: &impl Print,
+    case: u64,
+    name: &str,
+    expected: bool,
+    found: bool,
+) -> io::Result<()> {
+    heading(rt, case, name)?;
+    print_flag(rt, expected)?;
+    text(rt, "     ")?;
+    print_flag(rt, found)?;
+    verdict(rt, expected == found)
 }
 
-pub(crate) fn number(case: u64, name: &[u8], expected: u64, found: u64) {
-    heading(case, name);
-    io::print_decimal(STDOUT_FILENO, expected);
-    text(b"     ");
-    io::print_decimal(STDOUT_FILENO, found);
-    verdict(expected == found);
+pub(crate) fn number(
+    rt: &impl Print,
+    case: u64,
+    name: &str,
+    expected: u64,
+    found: u64,
+) -> io::Result<()> {
+    heading(rt, case, name)?;
+    print!(rt; "{expected}     {found}")?;
+    verdict(rt, expected == found)
 }
