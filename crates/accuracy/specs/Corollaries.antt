@@ -1,5 +1,5 @@
 -- What a reader expects of demand 3 beside its words.
-use Rattle.std.specs.Prelude.{ℕ, ◌≡◌, Bool, List, [], ◌∷◌, ◌++◌, ℤ, pos, negsuc, ◌+ℤ◌}
+use Rattle.std.specs.Prelude.{ℕ, ◌≡◌, Bool, List, [], ◌∷◌, ◌++◌, pos, negsuc, ◌+ℤ◌}
 use Rattle.numbers.specs.Signed.{signed, floor_div}
 use Rattle.numbers.specs.Held.{held}
 use Rattle.multiplier.specs.Product.{product}
