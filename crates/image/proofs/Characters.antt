@@ -51,4 +51,5 @@ digits-stop l i h d = digits_step l i h ∙ ap (λ (b : Bool). b && all_digits (
 
 -- what the loop of `all_digits` uses, and what that of `sum` uses
 pub ruleset digits = (digits-end, digits-go, digits-stop)
+
 pub ruleset totals = (total-step, total-end)

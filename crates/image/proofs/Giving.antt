@@ -59,4 +59,5 @@ missing-end g i h = rw (drop_of_length-le g h)
 
 -- what the loop of `give` uses, and what that of `missing` uses
 pub ruleset giving = (give-go, give-stop, give-outside, give-end)
+
 pub ruleset missings = (missing-go, missing-stop, missing-end)

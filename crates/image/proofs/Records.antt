@@ -151,4 +151,5 @@ head-by l m f c b = rw (f, c, b 1 (omega arith), b 3 (omega arith), b 5 (omega a
 
 -- what `record_head` uses, and what `data_part` uses
 pub ruleset heads = (formed-has)
+
 pub ruleset parts = (part-refused, start-good, part-within)
