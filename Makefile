@@ -35,8 +35,8 @@ run: desk
 # The bench list: what the rules expect and what the compiled machine answers.
 cases: kit
 	@echo 'proving what is new in what the bench list runs, a line a crate (about three minutes the first time)' >&2
-	@tools/proving target/run.log rt check bench
-	@$(FOR_X86_64) ./target/bin/bench
+	@tools/proving target/run.log sh -c 'cd crates/bench && rt check'
+	@cd crates/bench && $(FOR_X86_64) rt run 2>../../target/bench.log || { cat ../../target/bench.log >&2; exit 1; }
 
 test: kit generated
 	@tools/gate
@@ -129,7 +129,7 @@ endif
 refusals: kit
 	@mkdir -p target
 	@rt must-fail >target/must-fail.log 2>&1 || { cat target/must-fail.log >&2; exit 1; }
-	@tools/refusals
+	@tools/refusals target/must-fail.log
 
 clean:
-	rm -rf target dist host/target
+	rm -rf target dist host/target crates/*/out
