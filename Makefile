@@ -45,10 +45,9 @@ test: kit generated
 kit:
 	@tools/kit
 
-# What a script writes or checks against the proved sources: the record's setters, the larger chip's walk, the C header.
+# What a script writes or checks against the proved sources: the record's setters, the C header.
 generated:
 	@tools/setters --check
-	@tools/in_place --check
 	@tools/header --check
 
 # The desk's library and its header, proved and compiled anew where what they are built from has changed.
