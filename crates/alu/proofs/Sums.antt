@@ -1,6 +1,6 @@
 -- The signed sum and difference of two registers with a carry: what the code makes of them, and what a caller may use of a result.
 -- Assumes nothing.
-use Rattle.std.proofs.Common.{◌≡◌, ℕ, ◌+◌, ◌-◌, ◌/◌, ◌%◌, ◌<◌, ◌≤◌, Bool, true, false, ℤ, pos, ◌+ℤ◌, ◌-ℤ◌, sym, ap, ◌∙◌, arith}
+use Rattle.std.proofs.Common.{◌≡◌, ℕ, ◌+◌, ◌-◌, ◌/◌, ◌%◌, ◌<◌, ◌≤◌, Bool, true, false, pos, ◌+ℤ◌, ◌-ℤ◌, sym, ap, ◌∙◌, arith}
 use mir.Val.{bool_byte}
 use Rattle.numbers.specs.Signed.{signed, leaves, kept16}
 use Rattle.numbers.proofs.Whole.{up, down, ud-add, ud-sub, ud-pos}

@@ -12,7 +12,7 @@ signed x =
 unfoldable pub leaves : ℤ → Bool
 leaves z = int_lt z (negsuc 32767) || int_lt (pos 32767) z
 
--- "divided by .., rounded down", and what is left: z is m * floorDiv z m + floorMod z m
+-- "divided by .., rounded down", and what is left: z is m * floor_div z m + floor_mod z m
 unfoldable pub floor_div : ℤ → ℕ → ℤ
 floor_div (pos n) m = pos (n / m)
 floor_div (negsuc n) m = negsuc (n / m)

@@ -11,7 +11,6 @@ use Rattle.numbers.specs.Bits.{bits}
 use Rattle.device.specs.Device.{chip, word_limit}
 use Rattle.device.specs.declared.registers.Registers.{Registers}
 use Rattle.word.specs.Fields.{aligned, op_fields, jp_fields, code_fields, ldi_fields}
-use Rattle.word.specs.JumpCodes.{branch_of}
 use Rattle.word.specs.Word.{jump_of, word_of, taken_apart}
 use Rattle.word.specs.declared.OpFields.{OpFields}
 use Rattle.word.specs.declared.LdiFields.{LdiFields}

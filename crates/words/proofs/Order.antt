@@ -14,7 +14,7 @@ use Rattle.word.specs.JumpCodes.{branch_of}
 use Rattle.word.specs.Word.{taken_apart, word_of}
 use Rattle.word.specs.declared.Word.{Word}
 use Rattle.word.specs.declared.Word.TheVariants.{Op, Rt, Jp, JpCode, Ldi}
-use Rattle.words.specs.Outcomes.{Outcome, finished_word, refused_word, decided}
+use Rattle.words.specs.Outcomes.{finished_word, refused_word, decided}
 use Rattle.words.specs.Refusals.{unused_bits, cell_too_wide, nothing_to_pop, stack_full, op_refusal, jp_refusal, ldi_refusal}
 use Rattle.words.specs.Operation.{op_word}
 use Rattle.words.specs.Jump.{jp_word}

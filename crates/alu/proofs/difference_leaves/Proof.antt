@@ -1,6 +1,6 @@
 -- `difference_leaves`: the biased values' difference stands 65536 above the signed one.
 -- Assumes nothing.
-use Rattle.std.proofs.Common.{sym, arith, rules}
+use Rattle.std.proofs.Common.{sym, rules}
 use Rattle.numbers.proofs.Signed.{leaves-biased}
 use Rattle.alu.proofs.Sums.{difference-biased}
 use Rattle.alu.proofs.difference_leaves.Statement.{statement}

@@ -1,6 +1,6 @@
 -- `sum_leaves`: the biased values' sum stands 65536 above the signed one.
 -- Assumes nothing.
-use Rattle.std.proofs.Common.{sym, arith, rules}
+use Rattle.std.proofs.Common.{sym, rules}
 use Rattle.numbers.proofs.Signed.{leaves-biased}
 use Rattle.alu.proofs.Sums.{sum-biased}
 use Rattle.alu.proofs.sum_leaves.Statement.{statement}

@@ -1,6 +1,5 @@
 -- `multiply`: the machine multiplies what it reads back, and the product fits an i32.
 -- Assumes nothing.
-use native.Mathlib.Omega.{arith}
 use mathlib.Core.Path.{◌≡◌}
 use lib.IntN.{◌*ℤ◌}
 use mir.Syntax.{w32}

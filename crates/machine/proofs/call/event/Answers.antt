@@ -1,10 +1,6 @@
 -- `event`: the three tests of a call, then the event of its kind.
-use Rattle.std.proofs.Common.{◌≡◌, ◌≤◌, true, sym, ◌∙◌, arith}
-use borrow.Author.Tests.{not-true, not-false}
-use Rattle.device.specs.Device.{chip}
-use Rattle.device.specs.Registers.{registers_fit}
-use Rattle.machine.specs.Events.{lent_fit, kind_done, event_done}
-use Rattle.events.specs.Events.{allowed}
+use Rattle.std.proofs.Common.{◌≤◌, sym, ◌∙◌, arith}
+use Rattle.machine.specs.Events.{kind_done}
 use Rattle.machine.proofs.Calls.{call-refused-1, call-refused-2, call-refused-3, call-done, kind-reset}
 use Rattle.machine.proofs.call.event.Goals as goal
 

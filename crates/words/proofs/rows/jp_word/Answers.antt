@@ -1,5 +1,5 @@
 -- `jp_word`: for each branch the definition's test of it has one value.
-use Rattle.std.proofs.Common.{◌≡◌, ℕ, Bool, true, false, refl, sym, ap, ◌∙◌}
+use Rattle.std.proofs.Common.{◌≡◌, true, false, refl, sym, ap, ◌∙◌}
 use borrow.Author.Tests.{ne_eqb, le-leb, lt-leb}
 use Rattle.device.specs.Device.{chip}
 use Rattle.word.specs.JumpCodes.{branch_of}
@@ -7,7 +7,7 @@ use Rattle.word.specs.Word.{jump_of}
 use Rattle.flow.specs.Stack.{pushed}
 use Rattle.words.specs.Outcomes.{finished_word}
 use Rattle.words.specs.Jump.{jumped, jp_registers, jp_word}
-use Rattle.words.specs.Refusals.{jp_refusal, unconditional, unused_bits}
+use Rattle.words.specs.Refusals.{jp_refusal}
 use Rattle.words.proofs.Composed.{jp-unused, unused-of}
 use Rattle.words.proofs.rows.jp_word.Goals as goal
 
