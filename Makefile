@@ -34,7 +34,7 @@ run: desk
 
 # The bench list: what the rules expect and what the compiled machine answers.
 cases: kit
-	@echo 'proving what is new in what the bench list runs, a line a crate (some ten minutes the first time)' >&2
+	@echo 'proving what is new in what the bench list runs, a line a crate (some seven minutes the first time)' >&2
 	@tools/proving target/run.log sh -c 'cd crates/bench && rt check'
 	@cd crates/bench && $(FOR_X86_64) rt run 2>../../target/bench.log || { cat ../../target/bench.log >&2; exit 1; }
 
