@@ -5,6 +5,5 @@ ghost use Rattle.std.specs.Prelude.{◌≡◌, slice_index};
 pub fn cell_at(list: &[u16], at: u16) -> u16
     ensures { result ≡ slice_index list.now at }
 {
-    let i = at as usize;
-    if i < list.len() { list[i] } else { 0 }
+    list.get(at as usize).copied().unwrap_or(0)
 }

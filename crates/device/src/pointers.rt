@@ -4,78 +4,64 @@ ghost use Rattle.device.specs.Device.{chip};
 ghost use Rattle.device.specs.Lent.{word_at};
 ghost use Rattle.device.specs.Pointers.{address_fits, ram_pointer_fits, rom_pointer_fits, next_address, rom_pointer_down, low_after, ram_pointer_moved, ram_pointer_of, rom_pointer_of};
 
-use crate::sizes::{Chip, Upd77c25, Upd77p20};
+use crate::sizes::Chip;
 
 // Counts instruction words: PC, a stack cell.
 #[repr(C)]
-#[derive(Clone, Copy)]
+#[derive(Clone, Copy, Default)]
 pub struct InstructionAddress(pub u16);
 
 // Points at a RAM cell: DP, a row from bit 4 up and a place in it.
 #[repr(C)]
-#[derive(Clone, Copy)]
+#[derive(Clone, Copy, Default)]
 pub struct RamPointer(pub u16);
 
 // Points at a data ROM cell: RP.
 #[repr(C)]
-#[derive(Clone, Copy)]
+#[derive(Clone, Copy, Default)]
 pub struct RomPointer(pub u16);
 
 impl InstructionAddress {
-    pub fn fits(self, large: bool) -> bool
-        ensures { result ≡ address_fits (chip large) self }
+    pub fn fits<C: Chip>(self) -> bool
+        ensures { result ≡ address_fits (chip C.LARGE) self }
     {
-        self.0 < Chip::words(large)
+        self.0 < C::WORDS
     }
 
     // One word on; the last goes to 0.
-    pub fn next(self, large: bool) -> InstructionAddress
-        ensures { result ≡ next_address (chip large) self }
+    pub fn next<C: Chip>(self) -> InstructionAddress
+        ensures { result ≡ next_address (chip C.LARGE) self }
     {
-        let on = std::num::wrapping_add_u16(self.0, 1);
-        if large {
-            InstructionAddress(on % Upd77c25::WORDS)
-        } else {
-            InstructionAddress(on % Upd77p20::WORDS)
-        }
+        InstructionAddress(self.0.wrapping_add(1) % C::WORDS)
     }
 
     // The word there; 0 beyond the program's end.
     pub fn word(self, program: &[u32]) -> u32
         ensures { result ≡ word_at program.now self }
     {
-        let at = self.0 as usize;
-        if at < program.len() { program[at] } else { 0 }
+        program.get(self.0 as usize).copied().unwrap_or(0)
     }
 }
 
 impl RomPointer {
-    pub fn fits(self, large: bool) -> bool
-        ensures { result ≡ rom_pointer_fits (chip large) self }
+    pub fn fits<C: Chip>(self) -> bool
+        ensures { result ≡ rom_pointer_fits (chip C.LARGE) self }
     {
-        self.0 < Chip::cells(large)
+        self.0 < C::CELLS
     }
 
     // The low bits of a bus value.
-    pub fn of_bus(large: bool, bus: u16) -> RomPointer
-        ensures { result ≡ rom_pointer_of (chip large) bus }
+    pub fn of_bus<C: Chip>(bus: u16) -> RomPointer
+        ensures { result ≡ rom_pointer_of (chip C.LARGE) bus }
     {
-        if large {
-            RomPointer(bus % Upd77c25::CELLS)
-        } else {
-            RomPointer(bus % Upd77p20::CELLS)
-        }
+        RomPointer(bus % C::CELLS)
     }
 
     // One cell down; 0 goes to the last.
-    pub fn down(self, large: bool) -> RomPointer
-        ensures { result ≡ rom_pointer_down (chip large) self }
+    pub fn down<C: Chip>(self) -> RomPointer
+        ensures { result ≡ rom_pointer_down (chip C.LARGE) self }
     {
-        if large {
-            RomPointer(std::num::wrapping_add_u16(self.0, Upd77c25::CELLS - 1) % Upd77c25::CELLS)
-        } else {
-            RomPointer(std::num::wrapping_add_u16(self.0, Upd77p20::CELLS - 1) % Upd77p20::CELLS)
-        }
+        RomPointer(self.0.wrapping_add(C::CELLS - 1) % C::CELLS)
     }
 }
 
@@ -85,29 +71,25 @@ fn low_after(dpl: u8, low: u16) -> u16
 {
     match dpl {
         0 => low,
-        1 => std::num::wrapping_add_u16(low, 1) % 16,
-        2 => std::num::wrapping_add_u16(low, 15) % 16,
+        1 => low.wrapping_add(1) % 16,
+        2 => low.wrapping_add(15) % 16,
         3 => 0,
         _ => low,
     }
 }
 
 impl RamPointer {
-    pub fn fits(self, large: bool) -> bool
-        ensures { result ≡ ram_pointer_fits (chip large) self }
+    pub fn fits<C: Chip>(self) -> bool
+        ensures { result ≡ ram_pointer_fits (chip C.LARGE) self }
     {
-        self.0 < Chip::ram(large)
+        self.0 < C::RAM
     }
 
     // The low bits of a bus value.
-    pub fn of_bus(large: bool, bus: u16) -> RamPointer
-        ensures { result ≡ ram_pointer_of (chip large) bus }
+    pub fn of_bus<C: Chip>(bus: u16) -> RamPointer
+        ensures { result ≡ ram_pointer_of (chip C.LARGE) bus }
     {
-        if large {
-            RamPointer(bus % Upd77c25::RAM)
-        } else {
-            RamPointer(bus % Upd77p20::RAM)
-        }
+        RamPointer(bus % C::RAM)
     }
 
     // DPL for the place in the row, DPH-M for the row.

@@ -1,7 +1,7 @@
 // The register record: every register of 01, and no more. The uPD77C25 has one register besides, TRB, which stands beside the record.
 ghost use Rattle.std.specs.Prelude.{◌≡◌};
 ghost use Rattle.device.specs.Device.{chip};
-ghost use Rattle.device.specs.Registers.{fresh_registers, registers_fit, clear_flags};
+ghost use Rattle.device.specs.Registers.{fresh_registers, registers_fit};
 
 use crate::pointers::{InstructionAddress, RamPointer, RomPointer};
 use crate::sizes::Chip;
@@ -9,7 +9,7 @@ use alu::Flags;
 
 // The six flags of A, and again of B.
 #[repr(C)]
-#[derive(Clone, Copy)]
+#[derive(Clone, Copy, Default)]
 pub struct BothFlags {
     pub a: Flags,
     pub b: Flags,
@@ -17,7 +17,7 @@ pub struct BothFlags {
 
 // The order of the fields was found by counting the instructions of a run (docs/DECISIONS.md); no proof depends on it.
 #[repr(C)]
-#[derive(Clone, Copy)]
+#[derive(Clone, Copy, Default)]
 pub struct Registers {
     pub pc: InstructionAddress,
     pub stack0: InstructionAddress,
@@ -42,68 +42,28 @@ pub struct Registers {
     pub sorq: bool,
 }
 
-fn clear_flags() -> Flags
-    ensures { result ≡ clear_flags }
-{
-    Flags {
-        s1: false,
-        s0: false,
-        c: false,
-        z: false,
-        ov1: false,
-        ov0: false,
-    }
-}
-
-impl Chip {
+impl Registers {
     // A machine that has run nothing.
-    pub fn fresh_registers() -> Registers
+    #[tactic(auto, unfolding(crate::specs::Registers::fresh_registers))]
+    pub fn fresh() -> Registers
         ensures { result ≡ fresh_registers }
     {
-        let start = InstructionAddress(0);
-        let flags = BothFlags {
-            a: clear_flags(),
-            b: clear_flags(),
-        };
-        Registers {
-            pc: start,
-            stack0: start,
-            stack1: start,
-            stack2: start,
-            stack3: start,
-            depth: 0,
-            a: 0,
-            b: 0,
-            k: 0,
-            l: 0,
-            tr: 0,
-            dr: 0,
-            si: 0,
-            so: 0,
-            dp: RamPointer(0),
-            rp: RomPointer(0),
-            sr: 0,
-            flags,
-            siack: false,
-            soack: false,
-            sorq: false,
-        }
+        Registers::default()
     }
-}
 
-impl Registers {
     // Whether every register holds what the chip's could.
-    pub fn fit(self, large: bool) -> bool
-        ensures { result ≡ registers_fit (chip large) self }
+    #[tactic(auto, unfolding(crate::specs::Registers::registers_fit))]
+    pub fn fit<C: Chip>(self) -> bool
+        ensures { result ≡ registers_fit (chip C.LARGE) self }
     {
-        self.pc.fits(large)
-            & self.stack0.fits(large)
-            & self.stack1.fits(large)
-            & self.stack2.fits(large)
-            & self.stack3.fits(large)
-            & self.dp.fits(large)
-            & self.rp.fits(large)
-            & (self.depth <= Chip::stack(large))
+        self.pc.fits::<C>()
+            & self.stack0.fits::<C>()
+            & self.stack1.fits::<C>()
+            & self.stack2.fits::<C>()
+            & self.stack3.fits::<C>()
+            & self.dp.fits::<C>()
+            & self.rp.fits::<C>()
+            & (self.depth <= C::STACK)
             & (self.sr / 4 % 32 == 0)
     }
 }

@@ -1,8 +1,55 @@
 // The two chips: the uPD77P20, EPROM version of the uPD7720A, and the larger uPD77C25. Their sizes stand here and nowhere else.
-// Which of them a machine is goes down every call as `large`. A bool travels in a register, so that a library all of whose entry points name
-// one chip is compiled for that chip alone; an enum or a record would be asked at every word (docs/SPEED.md).
-ghost use Rattle.std.specs.Prelude.{◌≡◌};
+// Which of them a machine is goes down every call as a type, so that a chip's library is compiled for that chip alone.
+ghost use Rattle.std.specs.Prelude.{◌≡◌, ℕ, Bool, true, false, refl};
 ghost use Rattle.device.specs.Device.{chip, lengths_fit, word_limit, cell_fits, cell_value};
+
+pub trait Chip {
+    // Whether it is the larger of the two: the definitions ask no more of a chip.
+    const LARGE: bool;
+
+    ghost LARGE: { Bool };
+
+    // Instruction words, and the least number that one is too narrow for.
+    const WORDS: u16;
+
+    ghost WORDS: { ℕ };
+
+    const WORD_LIMIT: u32;
+
+    ghost WORD_LIMIT: { ℕ };
+
+    // Data ROM cells.
+    const CELLS: u16;
+
+    ghost CELLS: { ℕ };
+
+    // RAM cells.
+    const RAM: u16;
+
+    ghost RAM: { ℕ };
+
+    const STACK: u8;
+
+    ghost STACK: { ℕ };
+
+    // Whether a data ROM cell is narrow enough for the chip.
+    fn cell_fits(cell: u16) -> bool
+        ensures { result ≡ cell_fits (chip LARGE) cell };
+
+    // What a data ROM cell puts on the bus.
+    fn cell_value(cell: u16) -> u16
+        ensures { result ≡ cell_value (chip LARGE) cell };
+
+    ghost words_of_the_chip: { WORDS ≡ (chip LARGE).words };
+
+    ghost word_limit_of_the_chip: { WORD_LIMIT ≡ word_limit (chip LARGE) };
+
+    ghost cells_of_the_chip: { CELLS ≡ (chip LARGE).cells };
+
+    ghost ram_of_the_chip: { RAM ≡ (chip LARGE).ram };
+
+    ghost stack_of_the_chip: { STACK ≡ (chip LARGE).stack };
+}
 
 #[derive(Clone, Copy)]
 pub struct Upd77p20 {}
@@ -10,114 +57,99 @@ pub struct Upd77p20 {}
 #[derive(Clone, Copy)]
 pub struct Upd77c25 {}
 
-// Either of them.
-#[derive(Clone, Copy)]
-pub struct Chip {}
+impl Chip for Upd77p20 {
+    const LARGE: bool = false;
 
-impl Upd77p20 {
-    pub const WORDS: u16 = 512;
+    ghost LARGE = { false };
 
-    pub const WORD_LIMIT: u32 = 1 << 23;
+    const WORDS: u16 = 512;
 
-    pub const CELLS: u16 = 512;
+    ghost WORDS = { 512 };
 
-    pub const CELL_LIMIT: u16 = 1 << 13;
+    const WORD_LIMIT: u32 = 1 << 23;
 
-    pub const CELL_UNIT: u16 = 8;
+    ghost WORD_LIMIT = { 8388608 };
 
-    pub const RAM: u16 = 128;
+    const CELLS: u16 = 512;
 
-    pub const STACK: u8 = 4;
+    ghost CELLS = { 512 };
+
+    const RAM: u16 = 128;
+
+    ghost RAM = { 128 };
+
+    const STACK: u8 = 4;
+
+    ghost STACK = { 4 };
+
+    // A cell has 13 bits.
+    fn cell_fits(cell: u16) -> bool {
+        cell < 1 << 13
+    }
+
+    fn cell_value(cell: u16) -> u16 {
+        cell % (1 << 13) * 8
+    }
+
+    ghost words_of_the_chip = { refl };
+
+    ghost word_limit_of_the_chip = { refl };
+
+    ghost cells_of_the_chip = { refl };
+
+    ghost ram_of_the_chip = { refl };
+
+    ghost stack_of_the_chip = { refl };
 }
 
-// A data ROM cell has all 16 bits of its type.
-impl Upd77c25 {
-    pub const WORDS: u16 = 2048;
+impl Chip for Upd77c25 {
+    const LARGE: bool = true;
 
-    pub const WORD_LIMIT: u32 = 1 << 24;
+    ghost LARGE = { true };
 
-    pub const CELLS: u16 = 1024;
+    const WORDS: u16 = 2048;
 
-    pub const RAM: u16 = 256;
+    ghost WORDS = { 2048 };
 
-    pub const STACK: u8 = 4;
+    const WORD_LIMIT: u32 = 1 << 24;
+
+    ghost WORD_LIMIT = { 16777216 };
+
+    const CELLS: u16 = 1024;
+
+    ghost CELLS = { 1024 };
+
+    const RAM: u16 = 256;
+
+    ghost RAM = { 256 };
+
+    const STACK: u8 = 4;
+
+    ghost STACK = { 4 };
+
+    // A cell has all 16 bits of its type.
+    fn cell_fits(_whole: u16) -> bool {
+        true
+    }
+
+    fn cell_value(whole: u16) -> u16 {
+        whole
+    }
+
+    ghost words_of_the_chip = { refl };
+
+    ghost word_limit_of_the_chip = { refl };
+
+    ghost cells_of_the_chip = { refl };
+
+    ghost ram_of_the_chip = { refl };
+
+    ghost stack_of_the_chip = { refl };
 }
 
-impl Chip {
-    pub fn words(large: bool) -> u16
-        ensures { result ≡ (chip large).words }
-    {
-        if large {
-            Upd77c25::WORDS
-        } else {
-            Upd77p20::WORDS
-        }
-    }
-
-    pub fn cells(large: bool) -> u16
-        ensures { result ≡ (chip large).cells }
-    {
-        if large {
-            Upd77c25::CELLS
-        } else {
-            Upd77p20::CELLS
-        }
-    }
-
-    pub fn ram(large: bool) -> u16
-        ensures { result ≡ (chip large).ram }
-    {
-        if large { Upd77c25::RAM } else { Upd77p20::RAM }
-    }
-
-    pub fn stack(large: bool) -> u8
-        ensures { result ≡ (chip large).stack }
-    {
-        if large {
-            Upd77c25::STACK
-        } else {
-            Upd77p20::STACK
-        }
-    }
-
-    // The least number that an instruction word is too narrow for.
-    pub fn word_limit(large: bool) -> u32
-        ensures { result ≡ word_limit (chip large) }
-    {
-        if large {
-            Upd77c25::WORD_LIMIT
-        } else {
-            Upd77p20::WORD_LIMIT
-        }
-    }
-
-    // Whether the two lent images and the lent RAM are as long as the chip's.
-    pub fn lengths_fit(large: bool, words: usize, cells: usize, ram: usize) -> bool
-        ensures { result ≡ lengths_fit (chip large) words cells ram }
-    {
-        (words == (Chip::words(large) as usize))
-            & (cells == (Chip::cells(large) as usize))
-            & (ram == (Chip::ram(large) as usize))
-    }
-
-    // Whether a data ROM cell is narrow enough for the chip.
-    pub fn cell_fits(large: bool, cell: u16) -> bool
-        ensures { result ≡ cell_fits (chip large) cell }
-    {
-        if large {
-            true
-        } else {
-            cell < Upd77p20::CELL_LIMIT
-        }
-    }
-
-    // What a data ROM cell puts on the bus.
-    pub fn cell_value(large: bool, cell: u16) -> u16
-        ensures { result ≡ cell_value (chip large) cell }
-    {
-        if large {
-            return cell;
-        }
-        cell % Upd77p20::CELL_LIMIT * Upd77p20::CELL_UNIT
-    }
+// Whether the two lent images and the lent RAM are as long as the chip's.
+pub fn lengths_fit<C: Chip>(words: usize, cells: usize, ram: usize) -> bool
+    ensures { result ≡ lengths_fit (chip C.LARGE) words cells ram }
+{
+    (words == (C::WORDS as usize)) & (cells == (C::CELLS as usize)) & (ram == (C::RAM as usize))
 }
