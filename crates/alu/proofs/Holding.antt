@@ -1,37 +1,38 @@
 -- At most three sums: OV1 and S1 tell where the whole sum is, so A, or SGN where OV1 is 1, is that sum held within 16 bits.
 -- Assumes nothing.
-use Rattle.std.proofs.Common.{◌≡◌, ℕ, ◌+◌, ◌*◌, ◌%◌, ◌<◌, ◌≤◌, Bool, true, false, cond, ◌||◌, ltb, leb, List, [], ◌∷◌, length, ℤ, pos, negsuc, ◌+ℤ◌, sym, refl, ◌∙◌, subst, arith, ltb-false, ltb-true, leb-false, leb-true}
+use Rattle.std.proofs.Common.{◌≡◌, ℕ, ◌+◌, ◌*◌, ◌%◌, ◌<◌, ◌≤◌, Bool, true, false, cond, ◌||◌, leb, List, [], ◌∷◌, length, ℤ, pos, negsuc, ◌+ℤ◌, sym, refl, ◌∙◌, subst, arith, leb-false, leb-true}
 use lib.IntN.{+ℤ_idr}
-use Rattle.numbers.specs.Signed.{signed}
+use Rattle.numbers.specs.Signed.{signed, leaves}
 use Rattle.numbers.specs.Held.{held}
-use Rattle.numbers.proofs.Whole.{up, down, ud-add, ud-eq}
-use Rattle.numbers.proofs.Signed.{ud-signed, leaves-biased}
+use Rattle.std.proofs.lemmas.Int.{ints}
+use borrow.Author.Differences.{up, down}
+use lib.Signed.{lt_z}
+use Rattle.numbers.proofs.Signed.{ud-signed, signs}
 use Rattle.numbers.proofs.Held.{held_below, held-above, held-within}
 use Rattle.alu.specs.Flags.{s0_of, ov0_of, sgn_of, sum_flags}
 use Rattle.alu.specs.Operations.{plus}
 use Rattle.alu.specs.Answer.{answer}
 use Rattle.alu.specs.declared.Accumulator.{Accumulator}
-use Rattle.alu.proofs.Sums.{sum-biased}
 use Rattle.alu.proofs.Wrapped.{Landed, inside, high, low, Told, exact, over, under, far-over, far-under, told-on}
 
 -- ---- where a sum of 16 bits lands
 
--- z is s - 65536, and v the signed value of the 16 bits r that s and r have in common
-landed-by : (z v : ℤ) (s r : ℕ) → up z + 65536 ≡ s + down z → up v + 32768 ≡ (r + 32768) % 65536 + down v → r ≡ s % 65536 → s < 131072
-    → (a b c : Bool) → ltb s 32768 ≡ a → ltb 98303 s ≡ b → leb 32768 r ≡ c → Landed 32768 z v (a || b) c
-landed-by z v s r ez ev er h true b true ea eb ec = absurd (omega (arith, ltb-true s 32768 ea, leb-true 32768 r ec))
-landed-by z v s r ez ev er h true b false ea eb ec = low (omega (arith, ltb-true s 32768 ea))
-landed-by z v s r ez ev er h false true true ea eb ec = high (omega (arith, ltb-true 98303 s eb))
-landed-by z v s r ez ev er h false true false ea eb ec = absurd (omega (arith, ltb-true 98303 s eb, leb-false 32768 r ec))
-landed-by z v s r ez ev er h false false c ea eb ec = inside (omega (arith, ltb-false s 32768 ea, ltb-false 98303 s eb))
-
 pub landed : (x y k : ℕ) → k ≤ 1 → Landed 32768 (signed x +ℤ signed y +ℤ pos k) (signed ((x + y + k) % 65536)) (ov0_of (signed x +ℤ signed y +ℤ pos k)) (s0_of ((x + y + k) % 65536))
-landed x y k h =
-    let z = signed x +ℤ signed y +ℤ pos k in
-    let r = (x + y + k) % 65536 in
-    let s = (x + 32768) % 65536 + (y + 32768) % 65536 + k in
-    rw (leaves-biased z s (sum-biased x y k))
-    (landed-by z (signed r) s r (sum-biased x y k) (ud-signed r) (omega arith) (omega arith) (ltb s 32768) (ltb 98303 s) (leb 32768 r) refl refl refl)
+unfolding leaves
+landed x y k h = go (lt_z z (negsuc 32767)) (lt_z (pos 32767) z) (leb 32768 r) refl refl refl
+  where
+    z : ℤ
+    z = signed x +ℤ signed y +ℤ pos k
+
+    r : ℕ
+    r = (x + y + k) % 65536
+
+    go : (a b c : Bool) → lt_z z (negsuc 32767) ≡ a → lt_z (pos 32767) z ≡ b → leb 32768 r ≡ c → Landed 32768 z (signed r) (a || b) c
+    go true b true ea eb ec = absurd (omega (arith, signs, leb-true 32768 r ec))
+    go true b false ea eb ec = low (omega (arith, signs, leb-false 32768 r ec))
+    go false true true ea eb ec = high (omega (arith, signs, leb-true 32768 r ec))
+    go false true false ea eb ec = absurd (omega (arith, signs, leb-false 32768 r ec))
+    go false false c ea eb ec = inside (omega (arith, signs))
 
 -- ---- one sum after another
 
@@ -51,16 +52,13 @@ module _ (t : ℤ) where
   within16 = held (negsuc 32767) (pos 32767) t
 
   beyond : 32768 + down t ≤ up t → within16 ≡ pos 32767
-  unfolding up down
   beyond h = held-above (negsuc 32767) (pos 32767) t (omega arith) (omega arith)
 
   beneath : up t + 32768 < down t → within16 ≡ negsuc 32767
-  unfolding up down
   beneath h = held_below (negsuc 32767) (pos 32767) t (omega arith)
 
   same : (v : ℤ) → (down t ≤ up t + 32768) × (up t < down t + 32768) × (up v + down t ≡ up t + down v) → v ≡ within16
-  unfolding up down
-  same v h = ud-eq v t (omega arith) ∙ sym (held-within (negsuc 32767) (pos 32767) t (omega arith) (omega arith))
+  same v h = omega (arith, ints) ∙ sym (held-within (negsuc 32767) (pos 32767) t (omega arith) (omega arith))
 
   -- SGN is the end of the range beyond which the flags tell that the sum is
   told-answer : (value : ℕ) {ov1 s1 : Bool} → Told 32768 t (signed value) ov1 s1 → signed (cond ov1 (sgn_of s1) value) ≡ within16
@@ -87,8 +85,7 @@ unfolding summed whole_sum answer
 sums_on [] a t k l h = told-answer t a.value k
 sums_on (y ∷ ys) a t k l h =
     let s = ud-signed y in
-    let u = ud-add t (signed y) in
-    sums_on ys (plus a y 0) (t +ℤ signed y) (tells-on a y t (omega arith) (omega arith) k) (omega arith) (omega arith)
+    sums_on ys (plus a y 0) (t +ℤ signed y) (tells-on a y t (omega arith) (omega arith) k) (omega (arith, ints)) (omega (arith, ints))
 
 -- from OV1 0, after at most three sums, the answer is the whole sum held within -32768 to 32767
 pub sums-held : (a : Accumulator) (ys : List ℕ) → a.flags.ov1 ≡ false → length ys ≤ 3

@@ -1,5 +1,4 @@
 pub mod Sums
 pub mod Coded
-pub mod Plans
 pub mod Wrapped
 pub mod Holding

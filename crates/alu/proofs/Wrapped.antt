@@ -1,7 +1,8 @@
 -- Sums that wrap, and what OV1 and S1 know of them, over any half range H: an accumulator holds v from -H to H - 1.
 -- Assumes nothing.
 use Rattle.std.proofs.Common.{◌≡◌, ℕ, ◌+◌, ◌*◌, ◌<◌, ◌≤◌, Bool, true, false, ℤ, ◌+ℤ◌, arith}
-use Rattle.numbers.proofs.Whole.{up, down, ud-add}
+use Rattle.std.proofs.lemmas.Int.{ints}
+use borrow.Author.Differences.{up, down}
 use Rattle.alu.specs.Flags.{s1_of, ov1_of}
 
 -- where a sum z comes to rest at v, by OV0 and S0: within the range, or a whole turn of 2 * H away
@@ -21,14 +22,14 @@ pub data Told (H : ℕ) (t v : ℤ) : Bool → Bool → Type 0 where
 -- one sum more, while the whole sum is within three half ranges and the operand x within one
 module _ (H : ℕ) (t v x w : ℤ) (tl : down t ≤ up t + 3 * H) (th : up t < down t + 3 * H) (xl : down x ≤ up x + H) (xh : up x ≤ down x + H) where
   pub told-on : {ov1 s1 ov0 s0 : Bool} → Told H t v ov1 s1 → Landed H (v +ℤ x) w ov0 s0 → Told H (t +ℤ x) w (ov1_of ov1 s1 s0 ov0) (s1_of ov1 s1 s0)
-  told-on (exact a) (inside c) = exact (omega (arith, ud-add v x, ud-add t x))
-  told-on (exact a) (high c) = over (omega (arith, ud-add v x, ud-add t x))
-  told-on (exact a) (low c) = under (omega (arith, ud-add v x, ud-add t x))
-  told-on (over a) (inside c) = over (omega (arith, ud-add v x, ud-add t x))
-  told-on (over a) (high c) = far-over (omega (arith, ud-add v x, ud-add t x))
-  told-on (over a) (low c) = exact (omega (arith, ud-add v x, ud-add t x))
-  told-on (under a) (inside c) = under (omega (arith, ud-add v x, ud-add t x))
-  told-on (under a) (high c) = exact (omega (arith, ud-add v x, ud-add t x))
-  told-on (under a) (low c) = far-under (omega (arith, ud-add v x, ud-add t x))
+  told-on (exact a) (inside c) = exact (omega (arith, ints))
+  told-on (exact a) (high c) = over (omega (arith, ints))
+  told-on (exact a) (low c) = under (omega (arith, ints))
+  told-on (over a) (inside c) = over (omega (arith, ints))
+  told-on (over a) (high c) = far-over (omega (arith, ints))
+  told-on (over a) (low c) = exact (omega (arith, ints))
+  told-on (under a) (inside c) = under (omega (arith, ints))
+  told-on (under a) (high c) = exact (omega (arith, ints))
+  told-on (under a) (low c) = far-under (omega (arith, ints))
   told-on (far-over a) c = absurd (omega arith)
   told-on (far-under a) c = absurd (omega arith)

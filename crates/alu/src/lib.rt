@@ -8,7 +8,7 @@ ghost use Rattle.alu.specs.Flags.{carry_of, borrow_of, ov0_of, sum_flags};
 ghost use Rattle.alu.specs.Operations.{operation_of, plus, minus, other, plan_of};
 
 #[repr(C)]
-#[derive(Clone, Copy)]
+#[derive(Clone, Copy, Default)]
 pub struct Flags {
     pub s1: bool,
     pub s0: bool,
@@ -25,7 +25,7 @@ pub struct Accumulator {
     pub flags: Flags,
 }
 
-#[derive(Clone, Copy)]
+#[derive(Clone, Copy, PartialEq, Eq, Debug)]
 pub enum Operation {
     None,
     Or,
@@ -54,11 +54,11 @@ pub enum Plan {
     Other(u16, bool),
 }
 
-impl Operation {
-    // The operation of a word's ALU field.
-    pub fn of_code(code: u8) -> Operation
-        ensures { result ≡ operation_of code }
-    {
+// The operation of a word's ALU field.
+impl From<u8> for Operation {
+    ghost from_gives = { λ code operation. operation ≡ operation_of code };
+
+    fn from(code: u8) -> Operation {
         match code {
             0 => Operation::None,
             1 => Operation::Or,
@@ -81,28 +81,23 @@ impl Operation {
     }
 }
 
-// The signed value of a register with 32768 added: no sign is left.
-fn biased(x: u16) -> u32
-    ensures { result ≡ (x + 32768) % 65536 }
-{
-    std::num::wrapping_add_u16(x, 32768) as u32
-}
-
-// Whether x + y + k, and x - y - k, leave the signed 16 bits; each sum stands 65536 too high.
+// Whether x + y + k, and x - y - k, leave the signed 16 bits.
+#[tactic(auto, unfolding(numbers::specs::Signed::leaves), using(numbers::proofs::Signed::signs))]
 fn sum_leaves(x: u16, y: u16, k: u16) -> bool
     requires { k ≤ 1 }
     ensures { result ≡ ov0_of (signed x +ℤ signed y +ℤ pos k) }
 {
-    let s = biased(x) + biased(y) + (k as u32);
-    (s < 32768) | (98303 < s)
+    let sum = numbers::sign_extend(x) + numbers::sign_extend(y) + (k as i32);
+    (sum < -32768) | (32767 < sum)
 }
 
+#[tactic(auto, unfolding(numbers::specs::Signed::leaves), using(numbers::proofs::Signed::signs))]
 fn difference_leaves(x: u16, y: u16, k: u16) -> bool
     requires { k ≤ 1 }
     ensures { result ≡ ov0_of (signed x -ℤ signed y -ℤ pos k) }
 {
-    let s = biased(x) + 65536 - biased(y) - (k as u32);
-    (s < 32768) | (98303 < s)
+    let difference = numbers::sign_extend(x) - numbers::sign_extend(y) - (k as i32);
+    (difference < -32768) | (32767 < difference)
 }
 
 // The unsigned carry of x + y + k, and the borrow of x - y - k.
@@ -119,6 +114,7 @@ fn borrows(x: u16, y: u16, k: u16) -> bool
 }
 
 // The flags after a sum. S1 and OV1 are found without a branch.
+#[tactic(auto, unfolding(crate::specs::Flags::sum_flags))]
 fn flags_of_sum(before: Flags, res: u16, c: bool, ov0: bool) -> Flags
     ensures { result ≡ sum_flags before res c ov0 }
 {
@@ -136,26 +132,26 @@ fn flags_of_sum(before: Flags, res: u16, c: bool, ov0: bool) -> Flags
 }
 
 // The accumulator plus y and a carry.
+#[tactic(auto, unfolding(crate::specs::Operations::plus))]
 pub fn add(a: Accumulator, y: u16, c: bool) -> Accumulator
     ensures { result ≡ plus a y (bool_byte c) }
 {
     let k = c as u16;
     let x = a.value;
-    let before = a.flags;
-    let value = std::num::wrapping_add_u16(std::num::wrapping_add_u16(x, y), k);
-    let flags = flags_of_sum(before, value, carries(x, y, k), sum_leaves(x, y, k));
+    let value = x.wrapping_add(y).wrapping_add(k);
+    let flags = flags_of_sum(a.flags, value, carries(x, y, k), sum_leaves(x, y, k));
     Accumulator { value, flags }
 }
 
 // The accumulator minus y and a borrow.
+#[tactic(auto, unfolding(crate::specs::Operations::minus), using(crate::proofs::Sums::wrapped_twice))]
 pub fn subtract(a: Accumulator, y: u16, c: bool) -> Accumulator
     ensures { result ≡ minus a y (bool_byte c) }
 {
     let k = c as u16;
     let x = a.value;
-    let before = a.flags;
-    let value = std::num::wrapping_sub_u16(std::num::wrapping_sub_u16(x, y), k);
-    let flags = flags_of_sum(before, value, borrows(x, y, k), difference_leaves(x, y, k));
+    let value = x.wrapping_sub(y).wrapping_sub(k);
+    let flags = flags_of_sum(a.flags, value, borrows(x, y, k), difference_leaves(x, y, k));
     Accumulator { value, flags }
 }
 
@@ -171,17 +167,17 @@ pub fn other_result(value: u16, c: bool) -> Accumulator
             s0,
             c,
             z: value == 0,
-            ov1: false,
-            ov0: false,
+            ..Flags::default()
         },
     }
 }
 
 // Half of the signed value, rounded down: the shift to the right that keeps the sign.
+#[tactic(auto, using(numbers::proofs::Signed::halved))]
 fn half(x: u16) -> u16
     ensures { result ≡ kept16 (floor_div (signed x) 2) }
 {
-    numbers::keep16(numbers::sign_extend(x) >> 1)
+    (x.cast_signed() >> 1).cast_unsigned()
 }
 
 impl Plan {
@@ -205,7 +201,7 @@ impl Plan {
             Operation::Shl1 => Plan::Other((x << 1) + (c as u16), 32768 <= x),
             Operation::Shl2 => Plan::Other((x << 2) + 3, false),
             Operation::Shl4 => Plan::Other((x << 4) + 15, false),
-            Operation::Xchg => Plan::Other(x % 256 * 256 + x / 256, false),
+            Operation::Xchg => Plan::Other(x.swap_bytes(), false),
         }
     }
 }

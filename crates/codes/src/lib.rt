@@ -5,7 +5,7 @@
 ghost use Rattle.std.specs.Prelude.{◌≡◌};
 ghost use Rattle.codes.specs.Codes.{source_of, destination_of};
 
-#[derive(Clone, Copy)]
+#[derive(Clone, Copy, PartialEq, Eq, Debug)]
 pub enum Source {
     NoneOrTrb,
     A,
@@ -25,7 +25,7 @@ pub enum Source {
     Mem,
 }
 
-#[derive(Clone, Copy)]
+#[derive(Clone, Copy, PartialEq, Eq, Debug)]
 pub enum Destination {
     None,
     A,
@@ -45,11 +45,11 @@ pub enum Destination {
     Mem,
 }
 
-impl Source {
-    // The source of a word's SRC field.
-    pub fn of_code(code: u8) -> Source
-        ensures { result ≡ source_of code }
-    {
+// The source of a word's SRC field.
+impl From<u8> for Source {
+    ghost from_gives = { λ code source. source ≡ source_of code };
+
+    fn from(code: u8) -> Source {
         match code {
             0 => Source::NoneOrTrb,
             1 => Source::A,
@@ -72,11 +72,11 @@ impl Source {
     }
 }
 
-impl Destination {
-    // The destination of a word's DST field.
-    pub fn of_code(code: u8) -> Destination
-        ensures { result ≡ destination_of code }
-    {
+// The destination of a word's DST field.
+impl From<u8> for Destination {
+    ghost from_gives = { λ code destination. destination ≡ destination_of code };
+
+    fn from(code: u8) -> Destination {
         match code {
             0 => Destination::None,
             1 => Destination::A,

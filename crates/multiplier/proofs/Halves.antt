@@ -1,48 +1,35 @@
 -- The size of a product, and what M and N are of it.
 -- Assumes nothing.
-use Prim.Native.Nat.{ℕ, zero, suc, ◌+◌, ◌*◌, ◌%◌, ◌≤◌, ◌<◌}
+use Prim.Native.Nat.{ℕ, ◌+◌, ◌*◌, ◌%◌, ◌≤◌, ◌<◌}
 use native.Mathlib.Omega.{arith}
 use native.Mathlib.Nat.{mul-le-mul}
-use mathlib.Core.Path.{◌≡◌, refl}
+use mathlib.Core.Path.{◌≡◌}
 use mathlib.Core.Logic.{◌⊎◌, inl, inr}
-use lib.IntN.{ℤ, pos, negsuc, neg_ℤ, nat_abs, ◌*ℤ◌}
+use lib.IntN.{ℤ, pos, negsuc, nat_abs}
 use mir.Syntax.{w32}
 use mir.Val.{SFits}
 use Rattle.numbers.specs.Signed.{signed, floor_div, floor_mod, kept16}
-use Rattle.numbers.proofs.Whole.{up, down, abs-ud}
-use Rattle.numbers.proofs.Signed.{abs-signed, least-or-nearer, floor-split, floor_mod-lt, kept-signed}
+use Rattle.std.proofs.lemmas.Int.{ints, to_z-of_z, fits_signed_mul, unsigned_abs-mul}
+use borrow.Author.Differences.{up, down, abs_is}
+use Rattle.numbers.proofs.Signed.{abs-signed, least-or-nearer, floor-split, floor_mod-lt, kept-signed, shr-back}
 use Rattle.multiplier.specs.Product.{product, m_of}
 use Rattle.multiplier.specs.BothLeast.{BothLeast}
 
-abs_neg : (n : ℕ) → nat_abs (neg_ℤ (pos n)) ≡ n
-abs_neg zero = refl
-abs_neg (suc n) = refl
-
-abs-times : (a b : ℤ) → nat_abs (a *ℤ b) ≡ nat_abs a * nat_abs b
-abs-times (pos a) (pos b) = refl
-abs-times (pos a) (negsuc b) = abs_neg (a * suc b)
-abs-times (negsuc a) (pos b) = abs_neg (suc a * b)
-abs-times (negsuc a) (negsuc b) = refl
-
-abs-fits : (z : ℤ) → nat_abs z ≤ 1073741824 → SFits w32 z
-abs-fits (pos n) h = record { sfits = omega arith }
-abs-fits (negsuc n) h = record { sfits = omega arith }
-
 -- a product is at most 32768 squared away from 0
-pub product-fits : (k l : ℕ) → SFits w32 (product k l)
+pub product_fits : (k l : ℕ) → SFits w32 (product k l)
 unfolding product
-product-fits k l = abs-fits (product k l) (rw (abs-times (signed k) (signed l)) (mul-le-mul (abs-signed k) (abs-signed l)))
+product_fits k l = fits_signed_mul w32 (signed k) (signed l) 32768 32768 (abs-signed k) (abs-signed l) (omega arith)
 
 -- the low 15 bits of a number are those of its low 16
-pub low-15 : (z : ℤ) → kept16 z % 32768 ≡ floor_mod z 32768
+pub low_15 : (z : ℤ) → kept16 z % 32768 ≡ floor_mod z 32768
 unfolding floor_mod
-low-15 (pos n) = omega arith
-low-15 (negsuc n) = omega arith
+low_15 (pos n) = omega arith
+low_15 (negsuc n) = omega arith
 
 -- one input other than -32768 keeps the product 32768 farther from 2 ^ 30
 product-less : (k l : ℕ) → (BothLeast k l → ⊥) → nat_abs (product k l) ≤ 1073709056
 unfolding product
-product-less k l n = rw (abs-times (signed k) (signed l)) (go (least-or-nearer k) (least-or-nearer l))
+product-less k l n = rw (unsigned_abs-mul (signed k) (signed l)) (go (least-or-nearer k) (least-or-nearer l))
   where
     go : (signed k ≡ negsuc 32767) ⊎ (nat_abs (signed k) ≤ 32767) → (signed l ≡ negsuc 32767) ⊎ (nat_abs (signed l) ≤ 32767) → nat_abs (signed k) * nat_abs (signed l) ≤ 1073709056
     go (inl a) (inl b) = absurd (n (a, b))
@@ -61,10 +48,13 @@ module _ (k l : ℕ) (n : BothLeast k l → ⊥) where
           let s = floor-split z 32768 (omega arith) in
           let m = floor_mod-lt z 32768 (omega arith) in
           let h = product-less k l n in
-          let e = abs-ud z in
+          let e = abs_is z in
           (omega arith, omega arith)
 
   -- so 32768 times M is at most the product, and less than 32768 below it
   pub m-near : (up (signed (m_of k l)) * 32768 + down (product k l) ≤ up (product k l) + down (signed (m_of k l)) * 32768)
       × (up (product k l) + down (signed (m_of k l)) * 32768 ≤ up (signed (m_of k l)) * 32768 + down (product k l) + 32767)
   m-near = rw m-exact (omega (arith, floor-split (product k l) 32768 (omega arith), floor_mod-lt (product k l) 32768 (omega arith)))
+
+-- what `grind` may use of a product
+pub ruleset products = (product_fits, to_z-of_z, shr-back, low_15)

@@ -5,6 +5,7 @@ ghost use Rattle.std.specs.Prelude.{◌≡◌};
 ghost use Rattle.multiplier.specs.Product.{product, m_of, n_of};
 
 // The exact product of two registers' signed values.
+#[tactic(auto, unfolding(crate::specs::Product::product), using(crate::proofs::Halves::products))]
 pub fn multiply(k: u16, l: u16) -> i32
     ensures { result ≡ product k l }
 {
@@ -12,6 +13,7 @@ pub fn multiply(k: u16, l: u16) -> i32
 }
 
 // M: the product divided by 32768, rounded down, kept to 16 bits.
+#[tactic(auto, unfolding(crate::specs::Product::m_of), using(crate::proofs::Halves::products))]
 pub fn m(k: u16, l: u16) -> u16
     ensures { result ≡ m_of k l }
 {
@@ -19,6 +21,7 @@ pub fn m(k: u16, l: u16) -> u16
 }
 
 // N: the product's low 15 bits, doubled.
+#[tactic(auto, unfolding(crate::specs::Product::n_of), using(crate::proofs::Halves::products))]
 pub fn n(k: u16, l: u16) -> u16
     ensures { result ≡ n_of k l }
 {

@@ -1,7 +1,6 @@
 -- What holds of all that may be chosen holds of the choice.
 -- Assumes nothing.
-use Rattle.std.proofs.Common.{◌≡◌, ℕ, zero, suc, ◌<◌, ◌≤◌, Bool, true, false, cond, leb, List, [], ◌∷◌, get_or, sym, refl, ap, le-leb}
-use borrow.Author.Tests.{lt-leb}
+use Rattle.std.proofs.Common.{◌≡◌, ℕ, zero, suc, Bool, true, false, cond, List, [], ◌∷◌, get_or, refl, ap}
 use Rattle.numbers.specs.Every.{Every}
 
 module _ {A : Type 0} (P : A → Type 0) where
@@ -31,8 +30,3 @@ module _ {A : Type 0} (P : A → Type 0) where
   of-get_or-but (x ∷ l) zero (suc n) h k other = of-get_or l n h k
   of-get_or-but (x ∷ l) (suc place) zero h k other = h.0
   of-get_or-but (x ∷ l) (suc place) (suc n) h k other = of-get_or-but l place n h.1 k (λ e. other (ap suc e))
-
--- a test with both its outcomes is the test of an order
-pub by-outcomes : {t : Bool} (a b : ℕ) → (t ≡ true → a ≤ b) → (t ≡ false → b < a) → t ≡ leb a b
-by-outcomes {t = true} a b f g = sym (le-leb a b (f refl))
-by-outcomes {t = false} a b f g = sym (lt-leb a b (g refl))

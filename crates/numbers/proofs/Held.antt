@@ -1,9 +1,10 @@
 -- A number held within two ends is the end that it is beyond, or itself.
 -- Assumes nothing.
-use Rattle.std.proofs.Common.{◌≡◌, ◌+◌, ◌<◌, ◌≤◌, Bool, true, false, cond, ltb, ℤ, sym, refl, arith, ltb-false, ltb-true}
+use Rattle.std.proofs.Common.{◌≡◌, ◌+◌, ◌<◌, ◌≤◌, Bool, true, false, cond, ℤ, refl, arith}
+use Rattle.std.proofs.lemmas.Int.{ints}
+use borrow.Author.Differences.{up, down}
 use lib.Signed.{lt_z}
 use Rattle.numbers.specs.Held.{held}
-use Rattle.numbers.proofs.Whole.{up, down, lt_z-ud}
 
 pub data Holding (least most z : ℤ) : ℤ → Type 0 where
   below : up z + down least < up least + down z → Holding least most z least
@@ -13,33 +14,21 @@ pub data Holding (least most z : ℤ) : ℤ → Type 0 where
 module _ (least most z : ℤ) where
   pub holding : Holding least most z (held least most z)
   unfolding held
-  holding = go (lt_z z least) (lt_z most z) (sym (lt_z-ud z least)) (sym (lt_z-ud most z))
+  holding = go (lt_z z least) (lt_z most z) refl refl
     where
-      go : (s t : Bool) → ltb (up z + down least) (up least + down z) ≡ s → ltb (up most + down z) (up z + down most) ≡ t → Holding least most z (cond s least (cond t most z))
-      go true t e f = below (ltb-true _ _ e)
-      go false true e f = above (ltb-false _ _ e, ltb-true _ _ f)
-      go false false e f = within (ltb-false _ _ e, ltb-false _ _ f)
+      go : (s t : Bool) → lt_z z least ≡ s → lt_z most z ≡ t → Holding least most z (cond s least (cond t most z))
+      go true t e f = below (omega (arith, ints))
+      go false true e f = above (omega (arith, ints), omega (arith, ints))
+      go false false e f = within (omega (arith, ints), omega (arith, ints))
 
   pub held_below : up z + down least < up least + down z → held least most z ≡ least
-  held_below h = go (held least most z) holding
-    where
-      go : (w : ℤ) → Holding least most z w → w ≡ least
-      go w (below a) = refl
-      go w (above a) = absurd (omega arith)
-      go w (within a) = absurd (omega arith)
+  unfolding held
+  held_below h = grind (arith, ints)
 
   pub held-above : up least + down most ≤ up most + down least → up most + down z < up z + down most → held least most z ≡ most
-  held-above o h = go (held least most z) holding
-    where
-      go : (w : ℤ) → Holding least most z w → w ≡ most
-      go w (below a) = absurd (omega arith)
-      go w (above a) = refl
-      go w (within a) = absurd (omega arith)
+  unfolding held
+  held-above o h = grind (arith, ints)
 
   pub held-within : up least + down z ≤ up z + down least → up z + down most ≤ up most + down z → held least most z ≡ z
-  held-within h k = go (held least most z) holding
-    where
-      go : (w : ℤ) → Holding least most z w → w ≡ z
-      go w (below a) = absurd (omega arith)
-      go w (above a) = absurd (omega arith)
-      go w (within a) = refl
+  unfolding held
+  held-within h k = grind (arith, ints)

@@ -3,39 +3,28 @@
 
 ghost use Rattle.std.specs.Prelude.{◌≡◌};
 ghost use Rattle.numbers.specs.Signed.{signed, kept16};
-ghost use Rattle.numbers.specs.Reversal.{reversed, reversed16};
+ghost use Rattle.numbers.specs.Reversal.{reversed16};
 
 // The signed value of a register.
+#[tactic(auto, using(crate::proofs::Signed::read_signed))]
 pub fn sign_extend(x: u16) -> i32
     ensures { result ≡ signed x }
 {
-    (std::num::wrapping_add_u16(x, 32768) as i32) - 32768
+    x.cast_signed() as i32
 }
 
 // A signed whole number kept to 16 bits.
+#[tactic(auto, using(crate::proofs::Signed::kept_bits))]
 pub fn keep16(z: i32) -> u16
     ensures { result ≡ kept16 z }
 {
-    (z - (z >> 16) * 65536) as u16
-}
-
-// The eight low bits of x in reverse order.
-fn reverse_byte(x: u16) -> u16
-    ensures { result ≡ reversed 8 x }
-{
-    x % 2 * 0x80
-        + x / 0x02 % 2 * 0x40
-        + x / 0x04 % 2 * 0x20
-        + x / 0x08 % 2 * 0x10
-        + x / 0x10 % 2 * 0x08
-        + x / 0x20 % 2 * 0x04
-        + x / 0x40 % 2 * 0x02
-        + x / 0x80 % 2
+    (z.cast_unsigned() % 65536) as u16
 }
 
 // All 16 bits of x in reverse order.
+#[tactic(auto, using(crate::proofs::Reversal::reversed_library))]
 pub fn reverse16(x: u16) -> u16
     ensures { result ≡ reversed16 x }
 {
-    reverse_byte(x) * 256 + reverse_byte(x / 256)
+    x.reverse_bits()
 }
