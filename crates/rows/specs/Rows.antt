@@ -1,12 +1,18 @@
 -- A word as C holds it: its row by its two top bits, OP 0, RT 1, JP 2, LDI 3, and a place for the fields of each row, JP's of either chip.
-use Rattle.std.specs.Prelude.{ℕ, Bool, false, cond, List, [], ◌∷◌, slice_index_or}
+use Rattle.std.specs.Prelude.{ℕ, Bool, false, cond, List, [], ◌∷◌, slice_index_or, Result, Ok, Err}
+use Rattle.refusals.specs.Refusals.{number_of}
+use Rattle.refusals.specs.declared.Refusal.{Refusal}
 use Rattle.word.specs.Fields.{op_fields, jp_fields, code_fields, ldi_fields}
 use Rattle.word.specs.Word.{taken_apart, built}
 use Rattle.word.specs.declared.Word.{Word}
 use Rattle.word.specs.declared.Word.TheVariants.{Op, Rt, Jp, JpCode, Ldi}
 use Rattle.word.specs.declared.Built.{Built}
 use Rattle.rows.specs.declared.AnyRows.{AnyRows}
-use Rattle.rows.specs.declared.TakenAnyRows.{TakenAnyRows}
+
+-- a refusal's number or 0, and the rows of the word taken apart
+pub record TakenAnyRows : Type 0 where
+  pub refusal : ℕ
+  pub rows : AnyRows
 
 -- "the fields of its own row, and no others": those of the other rows are 0
 abbrev pub rows_of : Word → AnyRows
@@ -19,6 +25,11 @@ rows_of (Ldi f) = record { row = 3; op = op_fields false 0; jp = jp_fields 0; co
 -- refusal 4 as the taker gives it
 unfoldable pub taken_any_rows : Bool → ℕ → TakenAnyRows
 taken_any_rows large w = record { refusal = (taken_apart large w).refusal; rows = rows_of (taken_apart large w).word }
+
+-- the number and the rows of each answer of the taker: with 4 "an OP word's fields, all 0"
+abbrev pub number_and_rows : Bool → Result AnyRows Refusal → TakenAnyRows
+number_and_rows large (Ok rows) = record { refusal = 0; rows = rows }
+number_and_rows large (Err refusal) = record { refusal = number_of refusal; rows = rows_of (Op (op_fields large 0)) }
 
 -- a JP word with the fields that its chip has
 abbrev pub jump_in : Bool → AnyRows → Word

@@ -2,16 +2,15 @@
 #![tactic(auto)]
 
 ghost use Rattle.std.specs.Prelude.{◌≡◌};
-ghost use Rattle.rows.specs.Rows.{rows_of, jump_in, taken_any_rows, built_any_rows};
+ghost use Rattle.word.specs.Word.{number_and_bits};
+ghost use Rattle.rows.specs.Rows.{number_and_rows, rows_of, jump_in, taken_any_rows, built_any_rows};
 
-mod nothing;
-
-pub use nothing::{no_code, no_jp};
-use nothing::{no_ldi, no_op};
-use word::{Built, CodeFields, JpFields, LdiFields, OpFields, Word};
+use device::Chip;
+use refusals::Refusal;
+use word::{CodeFields, JpFields, LdiFields, OpFields, Word};
 
 // The fields of the rows that a word does not have are 0 when it is taken apart, and not looked at when it is built.
-#[derive(Clone, Copy)]
+#[derive(Clone, Copy, Default)]
 pub struct AnyRows {
     pub row: u8,
     pub op: OpFields,
@@ -20,97 +19,59 @@ pub struct AnyRows {
     pub ldi: LdiFields,
 }
 
-#[derive(Clone, Copy)]
-pub struct TakenAnyRows {
-    pub refusal: u8,
-    pub rows: AnyRows,
-}
+impl From<Word> for AnyRows {
+    ghost from_gives = { λ word rows. rows ≡ rows_of word };
 
-fn rows_of(word: Word) -> AnyRows
-    ensures { result ≡ rows_of word }
-{
-    let op = no_op();
-    let jp = no_jp();
-    let code = no_code();
-    let ldi = no_ldi();
-    match word {
-        Word::Op(f) => AnyRows {
-            row: 0,
-            op: f,
-            jp,
-            code,
-            ldi,
-        },
-        Word::Rt(f) => AnyRows {
-            row: 1,
-            op: f,
-            jp,
-            code,
-            ldi,
-        },
-        Word::Jp(f) => AnyRows {
-            row: 2,
-            op,
-            jp: f,
-            code,
-            ldi,
-        },
-        Word::JpCode(f) => AnyRows {
-            row: 2,
-            op,
-            jp,
-            code: f,
-            ldi,
-        },
-        Word::Ldi(f) => AnyRows {
-            row: 3,
-            op,
-            jp,
-            code,
-            ldi: f,
-        },
+    fn from(word: Word) -> AnyRows {
+        let none = AnyRows::default();
+        match word {
+            Word::Op(op) => AnyRows { row: 0, op, ..none },
+            Word::Rt(op) => AnyRows { row: 1, op, ..none },
+            Word::Jp(jp) => AnyRows { row: 2, jp, ..none },
+            Word::JpCode(code) => AnyRows {
+                row: 2,
+                code,
+                ..none
+            },
+            Word::Ldi(ldi) => AnyRows {
+                row: 3,
+                ldi,
+                ..none
+            },
+        }
     }
 }
 
-pub fn take_apart(large: bool, w: u32) -> TakenAnyRows
-    ensures { result ≡ taken_any_rows large w }
-{
-    let taken = word::take_apart(large, w);
-    let refusal = taken.refusal;
-    let held = taken.word;
-    TakenAnyRows {
-        refusal,
-        rows: rows_of(held),
+impl AnyRows {
+    // A JP word with the fields that its chip has.
+    fn jump<C: Chip>(self) -> Word
+        ensures { result ≡ jump_in C.LARGE self }
+    {
+        if C::LARGE {
+            Word::JpCode(self.code)
+        } else {
+            Word::Jp(self.jp)
+        }
     }
 }
 
-// A JP word with the fields that its chip has.
-fn jump(large: bool, rows: AnyRows) -> Word
-    ensures { result ≡ jump_in large rows }
+#[tactic(auto, unfolding(crate::specs::Rows::taken_any_rows))]
+pub fn take_apart<C: Chip>(w: u32) -> Result<AnyRows, Refusal>
+    ensures { number_and_rows C.LARGE result ≡ taken_any_rows C.LARGE w }
 {
-    let jp = rows.jp;
-    let code = rows.code;
-    if large {
-        Word::JpCode(code)
-    } else {
-        Word::Jp(jp)
-    }
+    let word = word::take_apart::<C>(w)?;
+    Ok(AnyRows::from(word))
 }
 
-pub fn build(large: bool, rows: AnyRows) -> Built
-    ensures { result ≡ built_any_rows large rows }
+#[tactic(auto, unfolding(crate::specs::Rows::built_any_rows))]
+pub fn build<C: Chip>(rows: AnyRows) -> Result<u32, Refusal>
+    ensures { number_and_bits result ≡ built_any_rows C.LARGE rows }
 {
-    let row = rows.row;
-    let op = rows.op;
-    let ldi = rows.ldi;
-    match row {
-        0 => word::build(large, Word::Op(op)),
-        1 => word::build(large, Word::Rt(op)),
-        2 => word::build(large, jump(large, rows)),
-        3 => word::build(large, Word::Ldi(ldi)),
-        _ => Built {
-            refusal: 11,
-            bits: 0,
-        },
+    match rows.row {
+        0 => word::build::<C>(Word::Op(rows.op)),
+        1 => word::build::<C>(Word::Rt(rows.op)),
+        2 => word::build::<C>(rows.jump::<C>()),
+        3 => word::build::<C>(Word::Ldi(rows.ldi)),
+        _ => Err(Refusal::FieldTooWide),
     }
 }

@@ -1,5 +1,6 @@
 pub mod Shifts
 pub mod Places
 pub mod JumpCodes
+pub mod Codes
 pub mod RoundTrip
 pub mod Unique

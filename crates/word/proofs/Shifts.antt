@@ -1,11 +1,8 @@
--- What the code makes by shifts: a power of two, and a word's bits from a place up.
-use Rattle.std.proofs.Common.{◌≡◌, ℕ, ◌+◌, ◌-◌, ◌*◌, ◌/◌, ◌%◌, ◌^◌, ◌<◌, ◌≤◌, ap, ◌∙◌, arith}
-use Rattle.std.proofs.Math.Nat.{one-mul, zero-mod, div-eq_of_lt, mod-eq_of_lt, lt_of_lt_of_le}
-use Rattle.std.proofs.Math.Pow.{pow-lt, pow_mono, shr_lt}
+-- What the code makes by a shift: a word's bits from a place up.
+use Rattle.std.proofs.Common.{◌≡◌, ℕ, ◌+◌, ◌-◌, ◌/◌, ◌%◌, ◌^◌, ◌<◌, ◌≤◌, ap, ◌∙◌, arith}
+use Rattle.std.proofs.Math.Nat.{zero-mod, div-eq_of_lt, mod-eq_of_lt, lt_of_lt_of_le}
+use Rattle.std.proofs.Math.Pow.{pow_mono, shr_lt}
 use Rattle.numbers.specs.Bits.{bits}
-
-pub one_shifted : (n : ℕ) → n < 32 → 1 * 2 ^ n % 4294967296 ≡ 2 ^ n
-one_shifted n h = rw (one-mul (2 ^ n)) (mod-eq_of_lt (pow-lt {i = n} {j = 32} h))
 
 -- a place beyond a word's 32 bits holds 0
 pub beyond_top : (w high low : ℕ) → w < 2 ^ 32 → 32 ≤ low → bits w high low ≡ 0

@@ -1,8 +1,8 @@
 -- Taking apart and building each leave one answer: two that meet the contract are equal.
-use Rattle.std.specs.Prelude.{ℕ, ◌≡◌, Bool}
-use Rattle.word.specs.Word.{taken_apart, built}
+use Rattle.std.specs.Prelude.{ℕ, ◌≡◌, Bool, Result}
+use Rattle.refusals.specs.declared.Refusal.{Refusal}
+use Rattle.word.specs.Word.{Taken, taken_apart, number_and_word, built, number_and_bits}
 use Rattle.word.specs.declared.Word.{Word}
-use Rattle.word.specs.declared.Taken.{Taken}
 use Rattle.word.specs.declared.Built.{Built}
 
 abbrev pub OneTaken : Type 0
@@ -10,3 +10,10 @@ OneTaken = (large : Bool) (w : ℕ) (x y : Taken) → x ≡ taken_apart large w 
 
 abbrev pub OneBuilt : Type 0
 OneBuilt = (large : Bool) (word : Word) (x y : Built) → x ≡ built large word → y ≡ built large word → x ≡ y
+
+-- and no two answers of the code say the same
+abbrev pub OneWord : Type 0
+OneWord = (large : Bool) (x y : Result Word Refusal) → number_and_word large x ≡ number_and_word large y → x ≡ y
+
+abbrev pub OneBits : Type 0
+OneBits = (x y : Result ℕ Refusal) → number_and_bits x ≡ number_and_bits y → x ≡ y
