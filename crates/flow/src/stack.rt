@@ -1,17 +1,16 @@
-// The stack and PC.
-ghost use Rattle.std.specs.Prelude.{◌≡◌, [], ◌∷◌, ◌-◌, slice_index_or};
+// The stack and PC. A record is copied whole and then changed: made anew with `..r` it takes some ten instructions a word more (docs/SPEED.md, "Forms").
+ghost use Rattle.std.specs.Prelude.{◌≡◌, [], ◌∷◌, slice_index_or};
 ghost use Rattle.flow.specs.Stack.{pushed, popped, stepped};
 
-use device::{InstructionAddress, Registers};
+use device::{Chip, InstructionAddress, Registers};
 
-// The address in the stack cell numbered by the depth, which goes up; nothing where there is no such cell.
+// The address in the stack cell numbered by the depth, which goes up; nothing where there is no such cell. C has the four cells by their names.
 #[tactic(auto, unfolding(crate::specs::Stack::pushed))]
 pub fn push(r: Registers, address: InstructionAddress) -> Registers
     ensures { result ≡ pushed r address }
 {
     let mut q = r;
-    let depth = r.depth;
-    match depth {
+    match r.depth {
         0 => {
             q.stack0 = address;
             q.depth = 1;
@@ -37,7 +36,13 @@ pub fn push(r: Registers, address: InstructionAddress) -> Registers
 }
 
 // One of four addresses. It takes the cells and not the record, which would be put into memory to be indexed.
-fn cell_of(n: u8, cell0: u16, cell1: u16, cell2: u16, cell3: u16) -> u16
+fn cell_of(
+    n: u8,
+    cell0: InstructionAddress,
+    cell1: InstructionAddress,
+    cell2: InstructionAddress,
+    cell3: InstructionAddress,
+) -> InstructionAddress
     ensures { result ≡ slice_index_or (cell0 ∷ cell1 ∷ cell2 ∷ []) n cell3 }
 {
     match n {
@@ -48,31 +53,24 @@ fn cell_of(n: u8, cell0: u16, cell1: u16, cell2: u16, cell3: u16) -> u16
     }
 }
 
-fn lowered(depth: u8) -> u8
-    ensures { result ≡ depth - 1 }
-{
-    if 0 < depth { depth - 1 } else { 0 }
-}
-
 // The depth goes down, and the cell so numbered into PC.
+#[tactic(auto, unfolding(crate::specs::Stack::popped))]
 pub fn pop(r: Registers) -> Registers
     ensures { result ≡ popped r }
 {
+    let depth = r.depth.saturating_sub(1);
+    let pc = cell_of(depth, r.stack0, r.stack1, r.stack2, r.stack3);
     let mut q = r;
-    let depth = lowered(r.depth);
-    let address = InstructionAddress(cell_of(
-        depth, r.stack0.0, r.stack1.0, r.stack2.0, r.stack3.0,
-    ));
     q.depth = depth;
-    q.pc = address;
+    q.pc = pc;
     q
 }
 
 // The next word.
-pub fn step(large: bool, r: Registers) -> Registers
-    ensures { result ≡ stepped large r }
+pub fn step<C: Chip>(r: Registers) -> Registers
+    ensures { result ≡ stepped C.LARGE r }
 {
     let mut q = r;
-    q.pc = r.pc.next(large);
+    q.pc = r.pc.next::<C>();
     q
 }

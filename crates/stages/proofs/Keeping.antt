@@ -1,11 +1,10 @@
 -- What a stage leaves alone.
 -- Assumes nothing.
-use Prim.Native.Nat.{ℕ, zero, suc, ◌+◌, ◌<◌}
-use native.Mathlib.Omega.{arith}
+use Prim.Native.Nat.{ℕ}
 use mathlib.Core.Path.{◌≡◌, refl, ap, ◌∙◌}
 use mathlib.Core.Bool.{Bool, true, false, cond, ◌||◌}
 use mathlib.Core.List.{List}
-use borrow.Author.Tests.{eq-eqb, ne_eqb, eqb-false}
+use borrow.Author.Tests.{eqb-false}
 use lib.Dec.{eqb}
 use Rattle.numbers.proofs.Choices.{of-cond, of-get_or-but}
 use Rattle.alu.specs.declared.Accumulator.{Accumulator}
@@ -29,24 +28,6 @@ use Rattle.status.specs.Status.{with_rqm}
 use Rattle.stages.specs.Pointing.{dp_after, pointed}
 
 -- ---- the ALU does nothing
-
--- the chosen accumulator is the destination where ASL is one below DST
-module _ (f : OpFields) (one_bit : f.asl < 2) where
-  pub blocked-true : f.asl + 1 ≡ f.dst → blocked f ≡ true
-  blocked-true = go f.asl one_bit
-    where
-      go : (n : ℕ) → n < 2 → n + 1 ≡ f.dst → is_destination f.dst (cond (eqb n 0) Dst.A Dst.B) ≡ true
-      go zero h e = eq-eqb f.dst 1 (omega arith)
-      go (suc zero) h e = eq-eqb f.dst 2 (omega arith)
-      go (suc (suc n)) h e = absurd (omega arith)
-
-  pub blocked-false : (f.asl + 1 ≡ f.dst → ⊥) → blocked f ≡ false
-  blocked-false = go f.asl one_bit
-    where
-      go : (n : ℕ) → n < 2 → (n + 1 ≡ f.dst → ⊥) → is_destination f.dst (cond (eqb n 0) Dst.A Dst.B) ≡ false
-      go zero h e = ne_eqb f.dst 1 (λ k. e (omega arith))
-      go (suc zero) h e = ne_eqb f.dst 2 (λ k. e (omega arith))
-      go (suc (suc n)) h e = absurd (omega arith)
 
 either : {A : Type 0} (s t : Bool) (x : A) → cond s x (cond t x x) ≡ x
 either true t x = refl

@@ -1,11 +1,13 @@
 // The ALU's part of a word.
-ghost use Rattle.std.specs.Prelude.{◌≡◌};
+ghost use Rattle.std.specs.Prelude.{◌≡◌, Bool, refl};
+ghost use Rattle.alu.specs.declared.Accumulator.{Accumulator};
 ghost use Rattle.alu.specs.Operations.{operated};
+ghost use Rattle.device.specs.declared.registers.Registers.{Registers};
 ghost use Rattle.word.specs.Fields.{op_fields};
 ghost use Rattle.stages.specs.Accumulators.{operand_of, accumulator_a, accumulator_b, stored_a, stored_b, accumulated};
 
 use alu::{Accumulator, Operation, Plan};
-use device::{BothFlags, Registers};
+use device::{BothFlags, Chip, Registers};
 
 // The P input. Halves first: a match of four arms becomes a jump through a table.
 #[tactic(auto, unfolding(crate::specs::Accumulators::operand_of))]
@@ -24,65 +26,115 @@ fn operand(r: Registers, psel: u32, bus: u16, ram: &[u16]) -> u16
     bus
 }
 
-fn store_a(r: Registers, x: Accumulator) -> Registers
-    ensures { result ≡ stored_a r x }
-{
-    let mut q = r;
-    let a = x.flags;
-    let b = r.flags.b;
-    let flags = BothFlags { a, b };
-    q.flags = flags;
-    q.a = x.value;
-    q
+// The accumulator that ASL chooses.
+trait Chosen {
+    ghost accumulator: { Registers → Accumulator };
+
+    ghost other_c: { Registers → Bool };
+
+    ghost stored: { Registers → Accumulator → Registers };
+
+    fn accumulator(r: Registers) -> Accumulator
+        ensures { result ≡ accumulator r };
+
+    // The other accumulator's C.
+    fn other_c(r: Registers) -> bool
+        ensures { result ≡ other_c r };
+
+    fn store(r: Registers, x: Accumulator) -> Registers
+        ensures { result ≡ stored r x };
+
+    ghost stored_again: { (r : Registers) → stored r (accumulator r) ≡ r };
 }
 
-fn store_b(r: Registers, x: Accumulator) -> Registers
-    ensures { result ≡ stored_b r x }
-{
-    let mut q = r;
-    let a = r.flags.a;
-    let b = x.flags;
-    let flags = BothFlags { a, b };
-    q.flags = flags;
-    q.b = x.value;
-    q
-}
+struct A {}
 
-// An operation on A, and below one on B: two paths, so that neither accumulator waits for the other.
-fn operate_a(r: Registers, operation: Operation, p: u16) -> Registers
-    ensures { result ≡ stored_a r (operated operation (accumulator_a r) p r.flags.b.c) }
-{
-    let flags = r.flags.a;
-    let a = Accumulator { value: r.a, flags };
-    let plan = Plan::of(operation, r.a, p, r.flags.b.c);
-    match plan {
-        Plan::Keep => r,
-        Plan::Plus(y, c) => store_a(r, alu::add(a, y, c)),
-        Plan::Minus(y, c) => store_a(r, alu::subtract(a, y, c)),
-        Plan::Other(value, c) => store_a(r, alu::other_result(value, c)),
+struct B {}
+
+impl Chosen for A {
+    ghost accumulator = { accumulator_a };
+
+    ghost other_c = { λ r. r.flags.b.c };
+
+    ghost stored = { stored_a };
+
+    fn accumulator(r: Registers) -> Accumulator {
+        Accumulator {
+            value: r.a,
+            flags: r.flags.a,
+        }
     }
+
+    fn other_c(r: Registers) -> bool {
+        r.flags.b.c
+    }
+
+    fn store(r: Registers, x: Accumulator) -> Registers {
+        let flags = BothFlags {
+            a: x.flags,
+            b: r.flags.b,
+        };
+        let mut q = r;
+        q.flags = flags;
+        q.a = x.value;
+        q
+    }
+
+    ghost stored_again = { λ r. refl };
 }
 
-fn operate_b(r: Registers, operation: Operation, p: u16) -> Registers
-    ensures { result ≡ stored_b r (operated operation (accumulator_b r) p r.flags.a.c) }
+impl Chosen for B {
+    ghost accumulator = { accumulator_b };
+
+    ghost other_c = { λ r. r.flags.a.c };
+
+    ghost stored = { stored_b };
+
+    fn accumulator(r: Registers) -> Accumulator {
+        Accumulator {
+            value: r.b,
+            flags: r.flags.b,
+        }
+    }
+
+    fn other_c(r: Registers) -> bool {
+        r.flags.a.c
+    }
+
+    fn store(r: Registers, x: Accumulator) -> Registers {
+        let flags = BothFlags {
+            a: r.flags.a,
+            b: x.flags,
+        };
+        let mut q = r;
+        q.flags = flags;
+        q.b = x.value;
+        q
+    }
+
+    ghost stored_again = { λ r. refl };
+}
+
+// An operation on the chosen accumulator. Compiled for each, so that neither waits for the other.
+#[tactic(auto, unfolding(alu::specs::Operations::operated))]
+fn operate<S: Chosen>(r: Registers, operation: Operation, p: u16) -> Registers
+    ensures { result ≡ S.stored r (operated operation (S.accumulator r) p (S.other_c r)) }
 {
-    let flags = r.flags.b;
-    let b = Accumulator { value: r.b, flags };
-    let plan = Plan::of(operation, r.b, p, r.flags.a.c);
-    match plan {
+    let x = S::accumulator(r);
+    match Plan::of(operation, x.value, p, S::other_c(r)) {
         Plan::Keep => r,
-        Plan::Plus(y, c) => store_b(r, alu::add(b, y, c)),
-        Plan::Minus(y, c) => store_b(r, alu::subtract(b, y, c)),
-        Plan::Other(value, c) => store_b(r, alu::other_result(value, c)),
+        Plan::Plus(y, c) => S::store(r, alu::add(x, y, c)),
+        Plan::Minus(y, c) => S::store(r, alu::subtract(x, y, c)),
+        Plan::Other(value, c) => S::store(r, alu::other_result(value, c)),
     }
 }
 
 // The operation of an OP or RT word w, unless its accumulator is the destination.
 #[tactic(auto, unfolding(crate::specs::Accumulators::accumulated))]
-pub fn accumulate(large: bool, r: Registers, w: u32, bus: u16, ram: &[u16]) -> Registers
-    ensures { result ≡ accumulated r r (op_fields large w) bus ram.now }
+pub fn accumulate<C: Chip>(r: Registers, w: u32, bus: u16, ram: &[u16]) -> Registers
+    ensures { result ≡ accumulated r r (op_fields C.LARGE w) bus ram.now }
 {
-    let v = word::aligned(large, w);
+    let v = word::aligned::<C>(w);
     let code = word::bits(v, 18, 15) as u8;
     let asl = word::bits(v, 14, 14);
     if code == 0 {
@@ -92,9 +144,9 @@ pub fn accumulate(large: bool, r: Registers, w: u32, bus: u16, ram: &[u16]) -> R
         return r;
     }
     let p = operand(r, word::bits(v, 20, 19), bus, ram);
-    let operation = Operation::of_code(code);
+    let operation = Operation::from(code);
     if asl == 0 {
-        return operate_a(r, operation, p);
+        return operate::<A>(r, operation, p);
     }
-    operate_b(r, operation, p)
+    operate::<B>(r, operation, p)
 }

@@ -1,36 +1,22 @@
 // What a source puts on the bus, and what reading it leaves behind.
-ghost use Rattle.std.specs.Prelude.{◌≡◌, cond};
+ghost use Rattle.std.specs.Prelude.{◌≡◌};
 ghost use Rattle.stages.specs.Bus.{bus_of, read_from};
 
 use codes::Source;
 use device::{Chip, Registers};
 
-// Source 0.
-fn trb_or_none(large: bool, trb: u16) -> u16
-    ensures { result ≡ cond large trb 0 }
-{
-    if large { trb } else { 0 }
-}
-
 #[tactic(auto, unfolding(crate::specs::Bus::bus_of))]
-pub fn bus_value(
-    large: bool,
-    r: Registers,
-    trb: u16,
-    source: Source,
-    ram: &[u16],
-    rom: &[u16],
-) -> u16
-    ensures { result ≡ bus_of large r trb source ram.now rom.now }
+pub fn bus_value<C: Chip>(r: Registers, trb: u16, source: Source, ram: &[u16], rom: &[u16]) -> u16
+    ensures { result ≡ bus_of C.LARGE r trb source ram.now rom.now }
 {
     match source {
-        Source::NoneOrTrb => trb_or_none(large, trb),
+        Source::NoneOrTrb => if C::LARGE { trb } else { 0 },
         Source::A => r.a,
         Source::B => r.b,
         Source::Tr => r.tr,
         Source::Dp => r.dp.0,
         Source::Rp => r.rp.0,
-        Source::Ro => Chip::cell_value(large, device::cell_at(rom, r.rp.0)),
+        Source::Ro => C::cell_value(device::cell_at(rom, r.rp.0)),
         Source::Sgn => if r.flags.a.s1 { 0x7fff } else { 0x8000 },
         Source::Dr => r.dr,
         Source::Drnf => r.dr,
@@ -50,15 +36,8 @@ pub fn read_from(r: Registers, source: Source) -> Registers
 {
     let mut q = r;
     match source {
-        Source::Dr => {
-            q.sr = status::with_rqm(r.sr);
-        }
-        Source::Sim => {
-            q.siack = false;
-        }
-        Source::Sil => {
-            q.siack = false;
-        }
+        Source::Dr => q.sr = status::with_rqm(r.sr),
+        Source::Sim | Source::Sil => q.siack = false,
         _ => {}
     }
     q

@@ -14,41 +14,28 @@ fn klm_address(dp: RamPointer) -> u16
 
 // The arms meet before the record is handed back: handed back in each, it is copied in each.
 #[tactic(auto, unfolding(crate::specs::Destinations::loaded, crate::specs::Destinations::ram_loaded))]
-pub fn load(
-    large: bool,
+pub fn load<C: Chip>(
     r: Registers,
     destination: Destination,
     bus: u16,
     ram: &mut [u16],
     rom: &[u16],
 ) -> Registers
-    ensures { (result ≡ loaded large r.dp r.rp r destination bus ram.old rom.now) × (ram.new ≡ ram_loaded r.dp destination bus ram.old) }
+    ensures { (result ≡ loaded C.LARGE r.dp r.rp r destination bus ram.old rom.now) × (ram.new ≡ ram_loaded r.dp destination bus ram.old) }
 {
     let mut q = r;
     match destination {
-        Destination::None => {}
-        Destination::A => {
-            q.a = bus;
-        }
-        Destination::B => {
-            q.b = bus;
-        }
-        Destination::Tr => {
-            q.tr = bus;
-        }
-        Destination::Dp => {
-            q.dp = RamPointer::of_bus(large, bus);
-        }
-        Destination::Rp => {
-            q.rp = RomPointer::of_bus(large, bus);
-        }
+        Destination::None | Destination::NoneOrTrb => {}
+        Destination::A => q.a = bus,
+        Destination::B => q.b = bus,
+        Destination::Tr => q.tr = bus,
+        Destination::Dp => q.dp = RamPointer::of_bus::<C>(bus),
+        Destination::Rp => q.rp = RomPointer::of_bus::<C>(bus),
         Destination::Dr => {
             q.dr = bus;
             q.sr = status::with_rqm(r.sr);
         }
-        Destination::Sr => {
-            q.sr = status::status_loaded(r.sr, bus);
-        }
+        Destination::Sr => q.sr = status::status_loaded(r.sr, bus),
         Destination::Sol => {
             q.so = numbers::reverse16(bus);
             q.sorq = true;
@@ -59,33 +46,26 @@ pub fn load(
             q.sorq = true;
             q.soack = false;
         }
-        Destination::K => {
-            q.k = bus;
-        }
+        Destination::K => q.k = bus,
         Destination::Klr => {
             q.k = bus;
-            q.l = Chip::cell_value(large, device::cell_at(rom, r.rp.0));
+            q.l = C::cell_value(device::cell_at(rom, r.rp.0));
         }
         Destination::Klm => {
             q.k = device::cell_at(ram, klm_address(r.dp));
             q.l = bus;
         }
-        Destination::L => {
-            q.l = bus;
-        }
-        Destination::NoneOrTrb => {}
-        Destination::Mem => {
-            store(ram, r.dp, bus);
-        }
+        Destination::L => q.l = bus,
+        Destination::Mem => store(ram, r.dp, bus),
     }
     q
 }
 
 // TRB after a word with this DST.
-pub fn load_trb(large: bool, trb: u16, dst: u32, bus: u16) -> u16
-    ensures { result ≡ trb_loaded large trb dst bus }
+pub fn load_trb<C: Chip>(trb: u16, dst: u32, bus: u16) -> u16
+    ensures { result ≡ trb_loaded C.LARGE trb dst bus }
 {
-    if large & (dst == 14) { bus } else { trb }
+    if C::LARGE & (dst == 14) { bus } else { trb }
 }
 
 // RAM at DP; nothing beyond its end.

@@ -4,47 +4,36 @@ ghost use Rattle.numbers.specs.Bits.{bits};
 ghost use Rattle.word.specs.Fields.{op_fields};
 ghost use Rattle.stages.specs.Pointing.{dp_after, rp_after, pointed};
 
-use device::{RamPointer, Registers, RomPointer};
+use device::{Chip, RamPointer, Registers, RomPointer};
 
-// Whether DPL and DPH-M are 0.
-fn dp_rests(large: bool, w: u32) -> bool
-    ensures { result ≡ (cond large (bits w 14 9) (bits w 13 9) == 0) }
+// Whether DPL, DPH-M and what stands below them down to D`low` are 0.
+fn rests<C: Chip>(w: u32, low: u32) -> bool
+    ensures { result ≡ (cond C.LARGE (bits w 14 low) (bits w 13 low) == 0) }
 {
-    if large {
-        word::bits(w, 14, 9) == 0
+    if C::LARGE {
+        word::bits(w, 14, low) == 0
     } else {
-        word::bits(w, 13, 9) == 0
+        word::bits(w, 13, low) == 0
     }
 }
 
-// Whether DPL, DPH-M and RPDCR are 0.
-fn both_rest(large: bool, w: u32) -> bool
-    ensures { result ≡ (cond large (bits w 14 8) (bits w 13 8) == 0) }
+fn dp_after<C: Chip>(dp: RamPointer, w: u32) -> RamPointer
+    ensures { result ≡ dp_after dp dp (op_fields C.LARGE w) }
 {
-    if large {
-        word::bits(w, 14, 8) == 0
-    } else {
-        word::bits(w, 13, 8) == 0
-    }
-}
-
-fn dp_after(large: bool, dp: RamPointer, w: u32) -> RamPointer
-    ensures { result ≡ dp_after dp dp (op_fields large w) }
-{
-    if dp_rests(large, w) {
+    if rests::<C>(w, 9) {
         return dp;
     }
     if word::bits(w, 3, 0) == 4 {
         return dp;
     }
     dp.moved(
-        word::bits(word::aligned(large, w), 13, 12) as u8,
-        word::dphm(large, w),
+        word::bits(word::aligned::<C>(w), 13, 12) as u8,
+        word::dphm::<C>(w),
     )
 }
 
-fn rp_after(large: bool, rp: RomPointer, w: u32) -> RomPointer
-    ensures { result ≡ rp_after large rp rp (op_fields large w) }
+fn rp_after<C: Chip>(rp: RomPointer, w: u32) -> RomPointer
+    ensures { result ≡ rp_after C.LARGE rp rp (op_fields C.LARGE w) }
 {
     if word::bits(w, 3, 0) == 5 {
         return rp;
@@ -52,18 +41,19 @@ fn rp_after(large: bool, rp: RomPointer, w: u32) -> RomPointer
     if word::bits(w, 8, 8) == 0 {
         return rp;
     }
-    rp.down(large)
+    rp.down::<C>()
 }
 
 // Most words move no pointer: one test of DPL, DPH-M and RPDCR together.
-pub fn point(large: bool, r: Registers, w: u32) -> Registers
-    ensures { result ≡ pointed large r.dp r.rp r (op_fields large w) }
+#[tactic(auto, unfolding(crate::specs::Pointing::pointed))]
+pub fn point<C: Chip>(r: Registers, w: u32) -> Registers
+    ensures { result ≡ pointed C.LARGE r.dp r.rp r (op_fields C.LARGE w) }
 {
-    if both_rest(large, w) {
+    if rests::<C>(w, 8) {
         return r;
     }
     let mut q = r;
-    q.dp = dp_after(large, r.dp, w);
-    q.rp = rp_after(large, r.rp, w);
+    q.dp = dp_after::<C>(r.dp, w);
+    q.rp = rp_after::<C>(r.rp, w);
     q
 }

@@ -5,8 +5,8 @@ use Rattle.stages.proofs.Keeping.{dp_after-idle}
 use Rattle.stages.proofs.Still.{dp-still}
 use Rattle.stages.proofs.pointing.dp_after.Goals as goal
 
-pub returns-then-dp_rests : goal.returns-then-dp_rests
-returns-then-dp_rests c =
+pub returns-then-rests : goal.returns-then-rests
+returns-then-rests g c =
     let s = c.args in
-    let still = dp-still s.large s.w (sym c.dp_rests.ensures ∙ c.if-dp_rests.true) in
-    sym (dp_after-idle s.dp (op_fields s.large s.w) still.0 still.1)
+    let still = dp-still g.C.Chip.LARGE s.w (sym c.rests.ensures ∙ c.if-rests.true) in
+    sym (dp_after-idle s.dp (op_fields g.C.Chip.LARGE s.w) still.0 still.1)
