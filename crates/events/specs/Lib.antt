@@ -1,2 +1,3 @@
 pub mod Host
 pub mod Events
+pub mod Unique

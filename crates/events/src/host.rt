@@ -52,16 +52,18 @@ fn dr_written(r: Registers, byte: u8) -> u16
 pub fn host_read(r: Registers) -> Registers
     ensures { result ≡ spec.host_read r }
 {
-    let mut q = r;
-    q.sr = status_accessed(r.sr);
-    q
+    Registers {
+        sr: status_accessed(r.sr),
+        ..r
+    }
 }
 
 pub fn host_write(r: Registers, byte: u8) -> Registers
     ensures { result ≡ spec.host_written r byte }
 {
-    let mut q = r;
-    q.dr = dr_written(r, byte);
-    q.sr = status_accessed(r.sr);
-    q
+    Registers {
+        dr: dr_written(r, byte),
+        sr: status_accessed(r.sr),
+        ..r
+    }
 }

@@ -53,6 +53,3 @@ module _ (kind value : ℕ) (ok : allowed kind value ≡ true) where
 
   pub byte_fits : kind ≡ 2 → value < 256
   byte_fits e = omega (arith, leb-true value 255 (at e))
-
-  pub serial-fits : kind ≡ 4 → value < 65536
-  serial-fits e = omega (arith, leb-true value 65535 (at e))

@@ -59,7 +59,9 @@ module _ {large : Bool} {count : ℕ} {registers : Registers} {before : ℕ} {pr
       ∙ (λ i. record { number = (sym done i).number; words = words; value = 0; registers = (sym done i).registers; trb = (sym done i).trb; ram = (sym done i).ram })
 
 pub finished : {large : Bool} {count : ℕ} {registers : Registers} {before : ℕ} {program rom lent : List ℕ} {words : ℕ} {q : Registers} {trb : ℕ} {ram : List ℕ}
-    → Going large count registers before program rom lent words q trb ram → count ≤ words → ran large count 0 registers before program rom lent ≡ record { number = 0; words = words; value = 0; registers = q; trb = trb; ram = ram }
+    → Going large count registers before program rom lent words q trb ram → count ≤ words → ran large count 0 registers before program rom lent ≡ record { number = 0; words = count; value = 0; registers = q; trb = trb; ram = ram }
 finished {large} {count} {registers} {before} {program} {rom} {lent} {words} {q} {trb} {ram} going h =
-    let e : count - words ≡ 0 = omega arith in
-    going.same ∙ ap (λ n. ran large n words q trb program rom ram) e ∙ ran-none large words q trb program rom ram
+    let w = going.within in
+    let none : count - words ≡ 0 = omega arith in
+    let all : words ≡ count = omega arith in
+    going.same ∙ ap (λ n. ran large n words q trb program rom ram) none ∙ ran-none large words q trb program rom ram ∙ (λ i. record { number = 0; words = all i; value = 0; registers = q; trb = trb; ram = ram })

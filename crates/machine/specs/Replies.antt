@@ -30,6 +30,10 @@ accepted_call q trb ram = record { number = 0; words = 2; value = 0; registers =
 abbrev pub ending : AfterEvent → List ℕ → Ending
 ending x ram = record { number = x.number; words = x.words; value = x.value; registers = x.registers; trb = x.trb; ram = ram }
 
+-- what the desk is told of it
+abbrev pub reply_of : AfterEvent → Reply
+reply_of x = record { number = x.number; words = x.words; value = x.value }
+
 -- the same where the reply stands apart from the registers and TRB: what a call in the caller's record leaves
 abbrev pub ending_in_place : Reply → Registers → ℕ → List ℕ → Ending
 ending_in_place x registers trb ram = record { number = x.number; words = x.words; value = x.value; registers = registers; trb = trb; ram = ram }

@@ -1,17 +1,21 @@
 // One call: one event from outside, refused or done.
 ghost use Rattle.std.specs.Prelude.{◌≡◌, List, ℕ};
-ghost use Rattle.machine.specs.Replies.{accepted_call, ending, finished_call, refused_call};
+ghost use Rattle.refusals.specs.Refusals.{number_of};
+ghost use Rattle.machine.specs.Replies.{ending};
 ghost use Rattle.machine.specs.Events as spec;
 
 use crate::replies::AfterEvent;
 use crate::run::run;
 use device::{Chip, Registers};
+use events::{Event, Input};
+use refusals::Refusal;
+use words::{Images, State};
 
-fn refuse(number: u8, registers: Registers, trb: u16) -> AfterEvent
-    ensures { (ram : List ℕ) → ending result ram ≡ refused_call number registers trb ram }
+fn refuse(refusal: Refusal, registers: Registers, trb: u16) -> AfterEvent
+    ensures { result ≡ record { number = number_of refusal; words = 0; value = 0; registers = registers; trb = trb } }
 {
     AfterEvent {
-        number,
+        number: u8::from(refusal),
         words: 0,
         value: 0,
         registers,
@@ -20,7 +24,7 @@ fn refuse(number: u8, registers: Registers, trb: u16) -> AfterEvent
 }
 
 fn finish(value: u16, registers: Registers, trb: u16) -> AfterEvent
-    ensures { (ram : List ℕ) → ending result ram ≡ finished_call value registers trb ram }
+    ensures { result ≡ record { number = 0; words = 0; value = value; registers = registers; trb = trb } }
 {
     AfterEvent {
         number: 0,
@@ -33,7 +37,7 @@ fn finish(value: u16, registers: Registers, trb: u16) -> AfterEvent
 
 // The NOP and the jump to 100H that an accepted interrupt puts in are two words done.
 fn accept(registers: Registers, trb: u16) -> AfterEvent
-    ensures { (ram : List ℕ) → ending result ram ≡ accepted_call registers trb ram }
+    ensures { result ≡ record { number = 0; words = 2; value = 0; registers = registers; trb = trb } }
 {
     AfterEvent {
         number: 0,
@@ -45,62 +49,53 @@ fn accept(registers: Registers, trb: u16) -> AfterEvent
 }
 
 // Event 5, or refusal 10.
+#[tactic(auto, unfolding(crate::specs::Events::serial_out_ending))]
 fn serial_out_event(r: Registers, trb: u16) -> AfterEvent
     ensures { (ram : List ℕ) → ending result ram ≡ spec.serial_out_ending r trb ram }
 {
     if r.sorq {
         return finish(r.so, events::serial_out(r), trb);
     }
-    refuse(10, r, trb)
+    refuse(Refusal::NothingToSend, r, trb)
 }
 
 // Event 6, or refusal 9.
-fn interrupt_event(large: bool, r: Registers, trb: u16) -> AfterEvent
-    ensures { (ram : List ℕ) → ending result ram ≡ spec.interrupt_ending large r trb ram }
+#[tactic(auto, unfolding(crate::specs::Events::interrupt_ending))]
+fn interrupt_event<C: Chip>(r: Registers, trb: u16) -> AfterEvent
+    ensures { (ram : List ℕ) → ending result ram ≡ spec.interrupt_ending C.LARGE r trb ram }
 {
     if status::ei(r.sr) {
-        if Chip::stack(large) <= r.depth {
-            return refuse(9, r, trb);
+        if C::STACK <= r.depth {
+            return refuse(Refusal::StackFull, r, trb);
         }
         return accept(events::interrupt(r), trb);
     }
     finish(0, r, trb)
 }
 
-// One call: one event of a kind with a value.
-pub fn event(
-    large: bool,
-    registers: Registers,
-    trb: u16,
-    program: &[u32],
-    rom: &[u16],
-    ram: &mut [u16],
-    kind: u32,
-    value: u32,
-) -> AfterEvent
-    ensures { ending result ram.new ≡ spec.event_done large registers trb program.now rom.now ram.old kind value }
+// One call: one event of a kind with a value. Registers and TRB go side by side from here, and the events in one match: as a `State`, or in a function of
+// their own, they take a dozen instructions a word more (docs/SPEED.md, "Forms").
+#[tactic(auto, unfolding(crate::specs::Events::event_done, crate::specs::Events::kind_done))]
+pub fn event<C: Chip>(state: State, images: Images, ram: &mut [u16], event: Event) -> AfterEvent
+    ensures { ending result ram.new ≡ spec.event_done C.LARGE state.registers state.trb images.entry.program.now images.entry.rom.now ram.old event.kind event.value }
 {
-    if !Chip::lengths_fit(large, program.len(), rom.len(), ram.len()) {
-        return refuse(1, registers, trb);
+    let r = state.registers;
+    let trb = state.trb;
+    if !device::lengths_fit::<C>(images.program.len(), images.rom.len(), ram.len()) {
+        return refuse(Refusal::WrongLength, r, trb);
     }
-    if !registers.fit(large) {
-        return refuse(2, registers, trb);
+    if !r.fit::<C>() {
+        return refuse(Refusal::RegisterTooWide, r, trb);
     }
-    if !events::allowed(kind, value) {
-        return refuse(3, registers, trb);
-    }
-    match kind {
-        0 => run(large, registers, trb, program, rom, ram, value as u16),
-        1 => finish(
-            events::byte_read(registers),
-            events::host_read(registers),
-            trb,
-        ),
-        2 => finish(0, events::host_write(registers, value as u8), trb),
-        3 => finish(registers.sr / 0x100 % 0x100, registers, trb),
-        4 => finish(0, events::serial_in(registers, value as u16), trb),
-        5 => serial_out_event(registers, trb),
-        6 => interrupt_event(large, registers, trb),
-        _ => finish(0, events::reset_machine(registers), trb),
+    match Input::try_from(event) {
+        Ok(Input::Run(count)) => run::<C>(r, trb, images, ram, count),
+        Ok(Input::HostRead) => finish(events::byte_read(r), events::host_read(r), trb),
+        Ok(Input::HostWrite(byte)) => finish(0, events::host_write(r, byte), trb),
+        Ok(Input::HostStatus) => finish(r.sr / 0x100 % 0x100, r, trb),
+        Ok(Input::SerialIn(word)) => finish(0, events::serial_in(r, word), trb),
+        Ok(Input::SerialOut) => serial_out_event(r, trb),
+        Ok(Input::Interrupt) => interrupt_event::<C>(r, trb),
+        Ok(Input::Reset) => finish(0, events::reset_machine(r), trb),
+        Err(refusal) => refuse(refusal, r, trb),
     }
 }

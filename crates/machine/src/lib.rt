@@ -1,4 +1,4 @@
-// One event, by value: the twin that carries the meaning, for either chip. The registers and TRB go in and come back, the RAM is changed in place.
+// One event, by value: the twin that carries the meaning, for either chip. The state goes in and comes back, the RAM is changed in place.
 #![tactic(auto)]
 
 mod call;
@@ -6,4 +6,6 @@ mod replies;
 mod run;
 
 pub use call::event;
-pub use replies::{AfterEvent, Event, Reply};
+pub use events::Event;
+pub use replies::{AfterEvent, Reply};
+pub use words::{Images, State};

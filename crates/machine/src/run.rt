@@ -4,43 +4,39 @@ ghost use Rattle.machine.specs.Replies.{ending};
 ghost use Rattle.machine.specs.Run.{ran};
 
 use crate::replies::AfterEvent;
-use device::Registers;
+use device::{Chip, Registers};
+use words::{Images, State};
 
-// So many words, or those before the first that is refused.
-pub(crate) fn run(
-    large: bool,
+// So many words, or those before the first that is refused. Registers and TRB go on side by side, as in `event`.
+pub(crate) fn run<C: Chip>(
     registers: Registers,
     before: u16,
-    program: &[u32],
-    rom: &[u16],
+    images: Images,
     ram: &mut [u16],
     count: u16,
 ) -> AfterEvent
-    ensures { ending result ram.new ≡ ran large count 0 registers before program.now rom.now ram.old }
+    ensures { ending result ram.new ≡ ran C.LARGE count 0 registers before images.entry.program.now images.entry.rom.now ram.old }
 {
     let mut q = registers;
     let mut trb = before;
-    let mut words: u16 = 0;
-    while words < count {
-        let done = words::one_word(large, q, trb, program, rom, ram);
-        let number = done.number;
-        let after = done.registers;
-        if number != 0 {
+    for words in 0..count {
+        let done = words::one_word::<C>(State { trb, registers: q }, images, ram);
+        let after = done.state.registers;
+        if done.number != 0 {
             return AfterEvent {
-                number,
+                number: done.number,
                 words,
                 value: 0,
                 registers: after,
-                trb: done.trb,
+                trb: done.state.trb,
             };
         }
         q = after;
-        trb = done.trb;
-        words += 1;
+        trb = done.state.trb;
     }
     AfterEvent {
         number: 0,
-        words,
+        words: count,
         value: 0,
         registers: q,
         trb,

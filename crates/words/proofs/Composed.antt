@@ -35,10 +35,6 @@ use Rattle.words.proofs.Between.{op_pointed}
 -- ---- an OP or RT word
 
 module _ (large rt : Bool) (r : Registers) (trb : ℕ) (f : OpFields) (ram rom : List ℕ) {n : ℕ} (number : n ≡ op_refusal large rt r f rom) where
-  pub op-refused : (n ≡ 0 → ⊥) → refused_word n r trb ram ≡ op_word large rt r trb f ram rom
-  unfolding op_word
-  op-refused h = rw (← number, ne_eqb n 0 h)
-
   pub op-finished : n ≡ 0 → finished_word (op_registers large rt r trb f ram rom) (op_trb large r trb f ram rom) (op_ram large r trb f ram rom) ≡ op_word large rt r trb f ram rom
   unfolding op_word
   op-finished e = rw (← number, e)
@@ -84,36 +80,6 @@ module _ (large rt : Bool) (r : Registers) (trb : ℕ) (f : OpFields) (ram rom :
   op-composed eb et e₁ e₂ e₃ ea e₄ e₅ =
       rw (e₅, e₄, e₃, ea, e₂, e₁, et, eb, s, d, code)
       ((λ i. finished_word (pc_moved large rt (op-staged large r trb f ram rom i)) (op_trb large r trb f ram rom) (op-stored large r trb f ram rom i)) ∙ op-finished large rt r trb f ram rom number none)
-
--- ---- a JP word
-
-pub jp-unused : (large : Bool) (r : Registers) (trb : ℕ) (word : Word) (ram : List ℕ) → branch_unknown word ≡ false → unused_bits word ≡ true → refused_word 18 r trb ram ≡ jp_word large r trb word ram
-unfolding jp_word jp_refusal
-jp-unused large r trb word ram k u = rw (k, u)
-
--- which bits are unused, where it is known whether a condition is asked
-pub unused-of : (large : Bool) (w : ℕ) (u : Bool) → unconditional (jump_of large w) ≡ u
-    → unused_bits (jump_of large w) ≡ cond large (not (eqb (code_fields w).spare 0)) (not (eqb (jp_fields w).spare 0) || (u && not (eqb (jp_fields w).cnd 0)))
-unused-of true w u e = refl
-unused-of false w u e = rw e
-
--- ---- an LDI word
-
-module _ (large : Bool) (r : Registers) (trb : ℕ) (f : LdiFields) (ram rom : List ℕ) {n : ℕ} (number : n ≡ ldi_refusal large r f rom) where
-  pub ldi-refused : (n ≡ 0 → ⊥) → refused_word n r trb ram ≡ ldi_word large r trb f ram rom
-  unfolding ldi_word
-  ldi-refused h = rw (← number, ne_eqb n 0 h)
-
-  pub ldi-finished : n ≡ 0 → finished_word (ldi_registers large r f ram rom) (ldi_trb large trb f) (ldi_ram r f ram) ≡ ldi_word large r trb f ram rom
-  unfolding ldi_word
-  ldi-finished e = rw (← number, e)
-
-  -- what the code has in hand at the end, put together
-  pub ldi-composed : n ≡ 0 → {destination : Destination} {dst id after-trb : ℕ} {q₁ q₂ : Registers} {after : List ℕ}
-      → destination ≡ destination_of f.dst → dst ≡ f.dst → id ≡ f.id → after-trb ≡ trb_loaded large trb dst id
-      → q₁ ≡ loaded large r.dp r.rp r destination id ram rom → after ≡ ram_loaded r.dp destination id ram → q₂ ≡ stepped large q₁
-      → finished_word q₂ after-trb after ≡ ldi_word large r trb f ram rom
-  ldi-composed none d code i et e₁ ea e₂ = rw (e₂, e₁, ea, et, d, code, i) (ldi-finished none)
 
 -- ---- which row
 

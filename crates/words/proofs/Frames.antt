@@ -9,8 +9,7 @@ use Rattle.alu.specs.Operations.{operated}
 use Rattle.device.specs.Lent.{word_at}
 use Rattle.device.specs.declared.registers.Registers.{Registers}
 use Rattle.device.proofs.Widths.{ram_pointer_moved-still}
-use Rattle.word.specs.Word.{word_of, taken_apart}
-use Rattle.word.specs.declared.Taken.{Taken}
+use Rattle.word.specs.Word.{Taken, word_of, taken_apart}
 use Rattle.word.specs.declared.Word.{Word}
 use Rattle.word.specs.declared.Word.TheVariants.{Op, Rt, Jp, JpCode, Ldi}
 use Rattle.codes.specs.Codes.{source_of}

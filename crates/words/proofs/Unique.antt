@@ -7,4 +7,4 @@ use Rattle.words.specs.OneWord.{OneOutcome}
 pub one-outcome : OneOutcome
 one-outcome large r trb program rom ram x y ram₁ ram₂ e₁ e₂ =
     let p = e₁ ∙ sym e₂ in
-    ((λ i. record { number = (p i).number; registers = (p i).registers; trb = (p i).trb }), ap (λ (o : Outcome). o.ram) p)
+    ((λ i. record { number = (p i).number; state = record { trb = (p i).trb; registers = (p i).registers } }), ap (λ (o : Outcome). o.ram) p)

@@ -14,10 +14,9 @@ use Rattle.device.specs.declared.registers.Registers.{Registers}
 use Rattle.device.proofs.Widths.{next_address-fits, row_bits, words-some}
 use Rattle.word.specs.Fields.{aligned, branch, op_fields, jp_fields, code_fields, ldi_fields}
 use Rattle.word.specs.JumpCodes.{branch_of, address_of}
-use Rattle.word.specs.Word.{jump_of, word_of, taken_apart}
+use Rattle.word.specs.Word.{Taken, jump_of, word_of, taken_apart}
 use Rattle.word.specs.declared.OpFields.{OpFields}
 use Rattle.word.specs.declared.LdiFields.{LdiFields}
-use Rattle.word.specs.declared.Taken.{Taken}
 use Rattle.word.specs.declared.Word.{Word}
 use Rattle.word.specs.declared.Word.TheVariants.{Op, Rt, Jp, JpCode}
 use Rattle.codes.specs.Codes.{source_of, destination_of}

@@ -5,7 +5,7 @@ use Rattle.device.specs.Registers.{registers_fit}
 use Rattle.device.specs.declared.registers.Registers.{Registers}
 use Rattle.words.specs.Outcomes.{Outcome, outcome}
 use Rattle.words.specs.Word.{word_done}
-use Rattle.words.specs.declared.outcomes.AfterWord.{AfterWord}
+use Rattle.words.specs.declared.state.AfterWord.{AfterWord}
 
 -- "All but 0 hand back .. registers and RAM as before the refused word", and TRB with them
 abbrev pub Unchanged : Registers → ℕ → List ℕ → Outcome → Type 0

@@ -1,7 +1,7 @@
 -- What a word leaves behind.
 use Rattle.std.specs.Prelude.{ℕ, cond, List, ◌==◌}
 use Rattle.device.specs.declared.registers.Registers.{Registers}
-use Rattle.words.specs.declared.outcomes.AfterWord.{AfterWord}
+use Rattle.words.specs.declared.state.AfterWord.{AfterWord}
 
 -- 0 or its refusal, the registers, TRB (which only the larger chip has), the RAM
 pub record Outcome : Type 0 where
@@ -24,4 +24,4 @@ decided number r trb ram finished = cond (number == 0) finished (refused_word nu
 
 -- what the code hands back, with the RAM as it is left
 abbrev pub outcome : AfterWord → List ℕ → Outcome
-outcome x ram = record { number = x.number; registers = x.registers; trb = x.trb; ram = ram }
+outcome x ram = record { number = x.number; registers = x.state.registers; trb = x.state.trb; ram = ram }
