@@ -1,14 +1,14 @@
--- Characters read one after the other: what the loops over a line use. Assumes nothing.
-use mathlib.Core.Path.{◌≡◌, refl, ap, ◌∙◌}
-use mathlib.Core.Bool.{Bool, true, false, ◌&&◌}
+-- Characters, and the bytes that they spell. Assumes nothing.
+use mathlib.Core.Path.{◌≡◌, refl, sym, ap, ◌∙◌}
+use mathlib.Core.Bool.{Bool, ◌&&◌}
 use mathlib.Core.List.{List, [], ◌∷◌}
-use Prim.Native.Nat.{ℕ, suc, ◌+◌, ◌<◌, ◌≤◌}
+use Prim.Native.Nat.{ℕ, suc, ◌+◌, ◌%◌, ◌<◌}
 use native.Mathlib.Omega.{arith}
 use native.Mathlib.Numerals.{add-one, add-two}
-use lib.ListN.{length, get_or, drop, drop_of_length-le, length-drop}
+use lib.ListN.{length, get_or, drop}
 use lib.Seq.{drop-cons}
 use lib.Dec.{ltb}
-use borrow.Author.Tests.{lt-ltb, le-ltb}
+use Rattle.std.specs.List.{list_all, fold}
 use Rattle.image.specs.Hexadecimal.{digit, byte_at, bytes_of, all_digits, total}
 
 pub bytes-step : (l : List ℕ) (j : ℕ) → j + 1 < length l → bytes_of (drop j l) ≡ byte_at l j ∷ bytes_of (drop (j + 2) l)
@@ -18,38 +18,21 @@ bytes-step l j h =
     let f : drop (suc j) l ≡ get_or l (suc j) 0 ∷ drop (suc (suc j)) l = drop-cons l (suc j) 0 (omega arith) in
     rw (add-one j, add-two j, e, f)
 
-short : (l : List ℕ) → length l < 2 → bytes_of l ≡ []
-unfolding bytes_of
-short [] h = refl
-short (x ∷ []) h = refl
-short (x ∷ y ∷ t) h = absurd (omega arith)
-
-pub bytes-end : (l : List ℕ) (j : ℕ) → length l < j + 2 → bytes_of (drop j l) ≡ []
-bytes-end l j h = short (drop j l) (rw length-drop (omega arith))
-
-pub total-step : (l : List ℕ) (j : ℕ) → j + 1 < length l → total (bytes_of (drop j l)) ≡ byte_at l j + total (bytes_of (drop (j + 2) l))
-unfolding total
-total-step l j h = ap total (bytes-step l j h)
-
-pub total-end : (l : List ℕ) (j : ℕ) → length l < j + 2 → total (bytes_of (drop j l)) ≡ 0
-unfolding total
-total-end l j h = ap total (bytes-end l j h)
-
-pub digits_step : (l : List ℕ) (i : ℕ) → i < length l → all_digits (drop i l) ≡ (ltb (digit (get_or l i 0)) 16 && all_digits (drop (i + 1) l))
+pub digits-all : (cs : List ℕ) → all_digits cs ≡ list_all (λ c. ltb (digit c) 16) cs
 unfolding all_digits
-digits_step l i h = rw (add-one i, drop-cons l i 0 h)
+digits-all [] = refl
+digits-all (c ∷ cs) = ap (λ (b : Bool). ltb (digit c) 16 && b) (digits-all cs)
 
-pub digits-end : (l : List ℕ) (i : ℕ) → length l ≤ i → all_digits (drop i l) ≡ true
-unfolding all_digits
-digits-end l i h = rw (drop_of_length-le l h)
+-- a sum modulo 256 at each byte is one modulo 256
+sum-from : (bs : List ℕ) (s : ℕ) → fold (λ s b. (s + b) % 256) (s % 256) bs ≡ (s + total bs) % 256
+unfolding total
+sum-from [] s = omega arith
+sum-from (b ∷ bs) s =
+    let e : (s % 256 + b) % 256 ≡ (s + b) % 256 = omega arith in
+    rw e (sum-from bs (s + b) ∙ omega arith)
 
-pub digits-go : (l : List ℕ) (i : ℕ) → i < length l → digit (get_or l i 0) < 16 → all_digits (drop i l) ≡ all_digits (drop (i + 1) l)
-digits-go l i h d = digits_step l i h ∙ ap (λ (b : Bool). b && all_digits (drop (i + 1) l)) (lt-ltb _ _ d)
+pub sum-all : (bs : List ℕ) → total bs % 256 ≡ fold (λ s b. (s + b) % 256) 0 bs
+sum-all bs = sym (sum-from bs 0 ∙ omega arith)
 
-pub digits-stop : (l : List ℕ) (i : ℕ) → i < length l → 16 ≤ digit (get_or l i 0) → all_digits (drop i l) ≡ false
-digits-stop l i h d = digits_step l i h ∙ ap (λ (b : Bool). b && all_digits (drop (i + 1) l)) (le-ltb _ _ d)
-
--- what the loop of `all_digits` uses, and what that of `sum` uses
-pub ruleset digits = (digits-end, digits-go, digits-stop)
-
-pub ruleset totals = (total-step, total-end)
+-- what `formed` uses
+pub ruleset digits = (digits-all)

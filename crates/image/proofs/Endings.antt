@@ -14,7 +14,7 @@ use Rattle.image.specs.IntelHex.{ending, characters, formed, record_head, data_p
 use Rattle.image.specs.Record.{Record}
 use Rattle.image.specs.Image.{walk}
 use Rattle.image.specs.Promises.{chosen_ending, with_ending, retold, EitherEnding}
-use Rattle.image.specs.declared.record.RecordHead.{RecordHead}
+use Rattle.image.specs.IntelHex.{RecordHead}
 use Rattle.image.proofs.Records.{formed-by, good, ending-near, length-good, head-by}
 use Rattle.image.proofs.Walking.{records, record-by}
 use Rattle.image.proofs.Loads.{blank, load-by}

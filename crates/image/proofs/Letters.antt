@@ -2,11 +2,12 @@
 use mathlib.Core.Path.{◌≡◌, refl, sym, ap, ap₂, ◌∙◌}
 use mathlib.Core.Bool.{Bool, true, false, cond, ◌&&◌, and-eq-true_iff}
 use mathlib.Core.List.{List, [], ◌∷◌, map}
-use Prim.Native.Nat.{ℕ, zero, suc, ◌+◌, ◌-◌, ◌*◌, ◌%◌, ◌<◌, ◌≤◌}
+use Prim.Native.Nat.{ℕ, ◌+◌, ◌-◌, ◌*◌, ◌%◌, ◌<◌, ◌≤◌}
 use native.Mathlib.Omega.{arith}
 use lib.ListN.{length, get_or, take, drop, length-map, get_or-map}
 use lib.Dec.{eqb, ltb, leb}
 use borrow.Author.Tests.{leb-true, lt-ltb, le-ltb, ne_eqb}
+use Rattle.std.proofs.lemmas.List.{take-map, drop-map}
 use Rattle.image.specs.Hexadecimal.{digit, byte, byte_at, bytes_of, all_digits}
 use Rattle.image.specs.Lines.{lines, onto}
 use Rattle.image.specs.IntelHex.{ending, characters, formed, record_head, data_place, data_part, intel_hex}
@@ -72,16 +73,6 @@ small-if c false e = twin c
 
 small-alike : Alike small
 small-alike = record { zero-kept = refl; twins = λ c. small-if c (leb 65 c && leb c 70) refl }
-
-take-map : (f : ℕ → ℕ) (n : ℕ) (l : List ℕ) → take n (map f l) ≡ map f (take n l)
-take-map f zero l = refl
-take-map f (suc n) [] = refl
-take-map f (suc n) (c ∷ l) = ap (λ (r : List ℕ). f c ∷ r) (take-map f n l)
-
-drop-map : (f : ℕ → ℕ) (n : ℕ) (l : List ℕ) → drop n (map f l) ≡ map f (drop n l)
-drop-map f zero l = refl
-drop-map f (suc n) [] = refl
-drop-map f (suc n) (c ∷ l) = drop-map f n l
 
 part-map : (f : ℕ → ℕ) (n k : ℕ) (l : List ℕ) → take n (drop k (map f l)) ≡ map f (take n (drop k l))
 part-map f n k l = ap (take n) (drop-map f k l) ∙ take-map f n (drop k l)

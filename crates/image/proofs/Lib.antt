@@ -1,5 +1,6 @@
 pub mod Cases
 pub mod Characters
+pub mod Replies
 pub mod Records
 pub mod Lines
 pub mod Giving

@@ -1,29 +1,43 @@
 -- A text line by line. Assumes nothing.
 use mathlib.Core.Path.{◌≡◌, refl, ap}
-use mathlib.Core.Bool.{Bool, true, false, cond}
+use mathlib.Core.Bool.{Bool, true, false, cond, not}
 use mathlib.Core.List.{List, [], ◌∷◌}
-use Prim.Native.Nat.{ℕ, suc, ◌+◌, ◌<◌, ◌≤◌}
+use Prim.Native.Nat.{ℕ, suc, ◌+◌, ◌≤◌, min}
 use native.Mathlib.Omega.{arith}
-use native.Mathlib.Numerals.{add-one}
-use lib.ListN.{length, get_or, take, drop, drop_of_length-le, length-drop}
-use lib.Seq.{drop-cons, drop-drop, length-take-le}
-use lib.Dec.{eqb}
-use borrow.Author.Tests.{eq-eqb, ne_eqb}
-use Rattle.image.specs.Lines.{lines, line_length, first_line, onto}
+use lib.ListN.{length, take, drop}
+use lib.Dec.{eqb, ltb}
+use borrow.Author.Tests.{ltb-true, ltb-false}
+use Rattle.std.specs.Prelude.{Option, Some, None}
+use Rattle.std.specs.List.{position, position_or_len}
+use Rattle.image.specs.Lines.{lines, line_length, onto}
 
-length-step : (t : List ℕ) (i : ℕ) → i < length t → line_length (drop i t) ≡ suc (cond (eqb (get_or t i 0) 10) 0 (line_length (drop (i + 1) t)))
+-- the first line goes as far as the first line feed, or else to the text's end
+length-if : (b : Bool) (m k n : ℕ) → m ≡ min (k + 1) n → suc (cond b 0 m) ≡ min (cond (not b) (1 + k) 0 + 1) (suc n)
+length-if true m k n e = omega arith
+length-if false m k n e = omega arith
+
+length-is : (t : List ℕ) → line_length t ≡ min (position_or_len (λ c. eqb c 10) t + 1) (length t)
 unfolding line_length
-length-step t i h = rw (add-one i, drop-cons t i 0 h)
+length-is [] = omega arith
+length-is (c ∷ t) = length-if (eqb c 10) (line_length t) (position_or_len (λ c. eqb c 10) t) (length t) (length-is t)
 
-pub length-stop : (t : List ℕ) (i : ℕ) → i < length t → get_or t i 0 ≡ 10 → line_length (drop i t) ≡ 1
-length-stop t i h e = rw (length-step t i h, eq-eqb _ _ e)
+feed-if : (t : List ℕ) (b : Bool) (i k : ℕ) → ltb k (length t) ≡ b → ◌≡◌ {A = Option ℕ} (cond b (Some k) None) (Some i) → line_length t ≡ min (k + 1) (length t) → line_length t ≡ i + 1
+feed-if t true i k l e h = let s : k ≡ i = cc in omega (arith, ltb-true k (length t) l)
+feed-if t false i k l e h = cc
 
-pub length-go : (t : List ℕ) (i : ℕ) → i < length t → (get_or t i 0 ≡ 10 → ⊥) → line_length (drop i t) ≡ 1 + line_length (drop (i + 1) t)
-length-go t i h e = rw (length-step t i h, ne_eqb _ _ e) (omega arith)
+pub length-feed : (t : List ℕ) (i : ℕ) → position (λ c. eqb c 10) t ≡ Some i → line_length t ≡ i + 1
+length-feed t i e =
+    let k = position_or_len (λ c. eqb c 10) t in
+    feed-if t (ltb k (length t)) i k refl e (length-is t)
 
-pub length-end : (t : List ℕ) (i : ℕ) → length t ≤ i → line_length (drop i t) ≡ 0
-unfolding line_length
-length-end t i h = rw (drop_of_length-le t h)
+none-if : (t : List ℕ) (b : Bool) (k : ℕ) → ltb k (length t) ≡ b → ◌≡◌ {A = Option ℕ} (cond b (Some k) None) None → line_length t ≡ min (k + 1) (length t) → line_length t ≡ length t
+none-if t true k l e h = cc
+none-if t false k l e h = omega (arith, ltb-false k (length t) l)
+
+pub length-none : (t : List ℕ) → position (λ c. eqb c 10) t ≡ None → line_length t ≡ length t
+length-none t e =
+    let k = position_or_len (λ c. eqb c 10) t in
+    none-if t (ltb k (length t)) k refl e (length-is t)
 
 -- the first line is cut off
 Cut : List ℕ → Type 0
@@ -43,10 +57,15 @@ cut : (c : ℕ) (t : List ℕ) → Cut (c ∷ t)
 cut c [] = cut-one c (eqb c 10) refl
 cut c (d ∷ t) = cut-if c d t (eqb c 10) refl (cut d t)
 
-pub lines_cut : (t : List ℕ) → 0 < length t → lines t ≡ take (line_length t) t ∷ lines (drop (line_length t) t)
+pub lines_cut : (t : List ℕ) → (length t ≡ 0 → ⊥) → lines t ≡ take (line_length t) t ∷ lines (drop (line_length t) t)
 unfolding Cut
-lines_cut [] h = absurd (omega arith)
+lines_cut [] h = absurd (h refl)
 lines_cut (c ∷ t) h = cut c t
+
+pub lines_none : (t : List ℕ) → length t ≡ 0 → lines t ≡ []
+unfolding lines
+lines_none [] e = refl
+lines_none (c ∷ t) e = absurd (omega arith)
 
 within-if : (b : Bool) (k n : ℕ) → k ≤ n → suc (cond b 0 k) ≤ suc n
 within-if true k n h = omega arith
@@ -57,30 +76,21 @@ unfolding line_length
 length-within [] = omega arith
 length-within (c ∷ t) = within-if (eqb c 10) (line_length t) (length t) (length-within t)
 
-pub length_some : (t : List ℕ) → 0 < length t → 0 < line_length t
-unfolding line_length
-length_some [] h = h
-length_some (c ∷ t) h = omega arith
+-- a line has at least one character
+count-onto : (c : ℕ) (ls : List (List ℕ)) (n : ℕ) → length ls ≤ n → length (onto c ls) ≤ suc n
+count-onto c [] n h = omega arith
+count-onto c (l ∷ ls) n h = omega arith
 
--- beyond the end there are no lines
-pub lines-over : (t : List ℕ) (at : ℕ) → length t ≤ at → lines (drop at t) ≡ []
+count-if : (c : ℕ) (t : List ℕ) (b : Bool) → length (lines t) ≤ length t → length (cond b ((c ∷ []) ∷ lines t) (onto c (lines t))) ≤ suc (length t)
+count-if c t true h = omega arith
+count-if c t false h = count-onto c (lines t) (length t) h
+
+pub lines-count : (t : List ℕ) → length (lines t) ≤ length t
 unfolding lines
-lines-over t at h = rw (drop_of_length-le t {i = at} h)
+lines-count [] = omega arith
+lines-count (c ∷ t) = count-if c t (eqb c 10) (lines-count t)
 
--- the first line of what is left of a text, from `from` on
-module _ (t : List ℕ) (from : ℕ) (h : from < length t) where
-  pub line-length : length (first_line (drop from t)) ≡ line_length (drop from t)
-  line-length = length-take-le (line_length (drop from t)) (drop from t) (length-within (drop from t))
+-- what `line_length` uses, and what the iterator over lines does
+pub ruleset lengths = (length-feed, length-none)
 
-  pub line_first : lines (drop from t) ≡ first_line (drop from t) ∷ lines (drop (from + length (first_line (drop from t))) t)
-  line_first =
-      rw (line-length, ← drop-drop (line_length (drop from t)) from t) (lines_cut (drop from t) (rw length-drop (omega arith)))
-
-  pub line-within : from + length (first_line (drop from t)) ≤ length t
-  line-within = omega (arith, line-length, length-within (drop from t), length-drop from t)
-
-  pub line-some : 0 < length (first_line (drop from t))
-  line-some = omega (arith, line-length, length_some (drop from t) (rw length-drop (omega arith)))
-
--- what the loop of `line_end` uses
-pub ruleset lengths = (length-stop, length-go, length-end)
+pub ruleset cuts = (lines_cut, lines_none, length-within)

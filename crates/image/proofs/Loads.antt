@@ -2,16 +2,18 @@
 use mathlib.Core.Path.{◌≡◌, refl, sym, ap, ◌∙◌}
 use mathlib.Core.Bool.{Bool, true, false, cond}
 use mathlib.Core.List.{List, ◌∷◌, map}
-use Prim.Native.Nat.{ℕ, zero, suc, ◌*◌, ◌≤◌, min}
+use Prim.Native.Nat.{ℕ, zero, suc, ◌*◌}
 use native.Mathlib.Omega.{arith}
-use lib.ListN.{length, take, replicate}
+use lib.ListN.{length, replicate}
+use mathlib.Core.List.{map-id}
+use Rattle.std.specs.Prelude.{Option, None}
 use lib.Dec.{eqb}
 use borrow.Author.Tests.{eq-eqb, ne_eqb}
 use Rattle.image.specs.Lines.{lines}
 use Rattle.image.specs.Record.{Record}
 use Rattle.image.specs.IntelHex.{intel_hex}
-use Rattle.image.specs.Image.{Walked, walked, at, walk, cells, Loaded, loaded, load}
-use Rattle.image.specs.declared.text.Loading.{Loading}
+use Rattle.image.specs.Image.{Loading, Walked, walked, at, walk, cells, Loaded, loaded, load}
+use Rattle.image.specs.Replies.{marks}
 
 -- what an image holds of a text before anything is given
 abbrev pub blank : ℕ → ℕ → List ℕ
@@ -31,23 +33,15 @@ module _ (form : List ℕ → Record) (width size : ℕ) (text image : List ℕ)
     unfolding load
     load-taken z = rw (← p, eq-eqb _ _ s, eq-eqb end.number 0 z)
 
--- the bound on an image's cells does not matter to one of as many as are asked for
-pub load-all : (form : List ℕ → Record) (width most size : ℕ) (text image : List ℕ) {x : Loaded} → length image ≡ size → size ≤ most
-    → x ≡ load form width (min (length image) most) text image → x ≡ load form width size text image
-load-all form width most size text image e h p =
-    let same : min (length image) most ≡ size = omega arith in
-    p ∙ ap (λ (n : ℕ). load form width n text image) same
+-- room in which nothing was given yet
+pub marks-blank : (n : ℕ) → marks (replicate n None) ≡ replicate n 256
+marks-blank zero = refl
+marks-blank (suc n) = ap (λ (l : List ℕ). 256 ∷ l) (marks-blank n)
 
 -- a walk over room in which nothing was given yet
-pub walk-blank : (width size : ℕ) (text g : List ℕ) {w : Walked} → g ≡ blank width size → w ≡ walk 0 (map intel_hex (lines text)) g
+pub walk-blank : (width size : ℕ) (text : List ℕ) (g : List (Option ℕ)) {w : Walked} → g ≡ replicate (width * size) None → w ≡ walk 0 (map intel_hex (lines text)) (marks g)
     → w ≡ walk 0 (map intel_hex (lines text)) (blank width size)
-walk-blank width size text g e p = p ∙ ap (walk 0 (map intel_hex (lines text))) e
-
--- a part of places that are all free
-pub take-replicate : (n m : ℕ) → n ≤ m → take n (replicate {A = ℕ} m 256) ≡ replicate n 256
-take-replicate zero m h = refl
-take-replicate (suc n) zero h = absurd (omega arith)
-take-replicate (suc n) (suc m) h = ap (λ (l : List ℕ). 256 ∷ l) (take-replicate n m (omega arith))
+walk-blank width size text g e p = p ∙ ap (walk 0 (map intel_hex (lines text))) (ap marks e ∙ marks-blank (width * size))
 
 -- the same by the tests
 unfoldable pub outcome : ℕ → ℕ → List ℕ → Walked → Bool → Bool → Loaded
@@ -78,5 +72,5 @@ pub load-by : (form : List ℕ → Record) (width size : ℕ) (text other image 
 unfolding load
 load-by form width size text other image e = rw e
 
--- what `load_cells` and `load_data` use
-pub ruleset loads = (load-short, load-all)
+-- what the loads of each image use
+pub ruleset loads = (map-id)

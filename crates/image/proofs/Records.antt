@@ -2,14 +2,19 @@
 use mathlib.Core.Path.{◌≡◌, refl, sym, ap, ◌∙◌}
 use mathlib.Core.Bool.{Bool, true, false, cond, not, ◌&&◌}
 use mathlib.Core.List.{List, []}
-use Prim.Native.Nat.{ℕ, ◌+◌, ◌-◌, ◌*◌, ◌<◌, ◌≤◌}
+use Prim.Native.Nat.{ℕ, ◌+◌, ◌-◌, ◌*◌, ◌%◌, ◌≤◌}
 use native.Mathlib.Omega.{arith}
 use lib.ListN.{length, get_or, take, drop}
 use lib.Dec.{eqb, ltb, leb}
-use borrow.Author.Tests.{leb-true, le-leb, eqb-true, eq-eqb, ne_eqb, lt-ltb, le-ltb, ltb-false}
-use Rattle.image.specs.Hexadecimal.{byte_at, all_digits}
+use borrow.Author.Tests.{leb-true, le-leb, eqb-true, eq-eqb, ne_eqb, le-ltb, ltb-false}
+use Rattle.std.specs.List.{fold}
+use Rattle.refusals.specs.Refusals.{number_of}
+use Rattle.refusals.specs.declared.Refusal.{Refusal}
+use Rattle.image.specs.Hexadecimal.{byte_at, bytes_of, all_digits}
 use Rattle.image.specs.IntelHex.{characters, record_type, data_length, address, ending, formed, checked, refused, said, record_head, data_place, data_part, data_start}
-use Rattle.image.specs.declared.record.RecordHead.{RecordHead}
+use Rattle.image.specs.IntelHex.{RecordHead}
+use Rattle.image.proofs.Characters.{sum-all}
+use Rattle.refusals.proofs.Numbers.{not_0}
 
 ending-if : (b : Bool) (n : ℕ) → (n - 2 ≤ cond b (n - 2) (n - 1)) × (cond b (n - 2) (n - 1) ≤ n - 1)
 ending-if true n = (omega arith, omega arith)
@@ -63,12 +68,8 @@ formed-by l f =
       eq-eqb (ending l) (11 + 2 * data_length l) f.fits,
     ) f.bare
 
--- the four ways in which a record is read
+-- ways in which a record is read
 module _ (l : List ℕ) where
-  pub head-12 : formed l ≡ false → record_head l ≡ refused 12
-  unfolding record_head
-  head-12 f = rw f
-
   pub head-13 : formed l ≡ true → checked l ≡ false → record_head l ≡ refused 13
   unfolding record_head
   head-13 f s = rw (f, s)
@@ -76,10 +77,6 @@ module _ (l : List ℕ) where
   pub head-said : formed l ≡ true → checked l ≡ true → record_head l ≡ said l
   unfolding record_head
   head-said f s = rw (f, s)
-
-  pub said-14 : 1 < record_type l → said l ≡ refused 14
-  unfolding said
-  said-14 t = rw (lt-ltb _ _ t)
 
   pub said-0 : record_type l ≤ 1 → said l ≡ record { number = 0; kind = record_type l; address = address l; length = data_length l }
   unfolding said
@@ -149,7 +146,19 @@ pub head-by : (l m : List ℕ) → formed m ≡ formed l → checked m ≡ check
 unfolding record_head said
 head-by l m f c b = rw (f, c, b 1 (omega arith), b 3 (omega arith), b 5 (omega arith), b 7 (omega arith))
 
--- what `record_head` uses, and what `data_part` uses
-pub ruleset heads = (formed-has)
+-- a record whose bytes do not add up to 0
+pub head-sum : (l : List ℕ) → formed l ≡ true → (fold (λ s b. (s + b) % 256) 0 (bytes_of (characters l)) ≡ 0 → ⊥) → record_head l ≡ refused 13
+head-sum l f s = head-13 l f (ne_eqb _ 0 (λ z. s (sym (sum-all (bytes_of (characters l))) ∙ z)))
 
-pub ruleset parts = (part-refused, start-good, part-within)
+-- the part of a record that says this of itself, and none of one that is refused
+pub part-said : (l : List ℕ) (h : RecordHead) → h ≡ record_head l → data_part l ≡ take (2 * h.length) (drop 9 l)
+unfolding data_part
+part-said l h e = ap (λ (r : RecordHead). take (2 * r.length) (drop 9 l)) (sym e)
+
+pub is-refused : (l : List ℕ) (r : Refusal) → refused (number_of r) ≡ record_head l → (record_head l).number ≡ 0 → ⊥
+is-refused l r e z = not_0 r (ap (λ (h : RecordHead). h.number) e ∙ z)
+
+-- what `record_head` uses, and what `data_part` uses
+pub ruleset heads = (formed-has, head-sum, sum-all)
+
+pub ruleset parts = (part-refused, part-said, is-refused, start-good, part-within)

@@ -1,20 +1,23 @@
 -- The records of a text, one line after the other. Assumes nothing.
 use mathlib.Core.Path.{◌≡◌, refl, sym, ap, ◌∙◌}
-use mathlib.Core.Bool.{Bool, true, false, cond, not}
+use mathlib.Core.Bool.{Bool, true, false, cond}
 use mathlib.Core.List.{List, [], ◌∷◌, map}
-use Prim.Native.Nat.{ℕ, ◌+◌, ◌*◌, ◌<◌, ◌≤◌}
+use Prim.Native.Nat.{ℕ, ◌+◌, ◌*◌, ◌≤◌}
 use native.Mathlib.Omega.{arith}
 use lib.ListN.{length, take, drop}
 use lib.Dec.{eqb}
 use borrow.Author.Tests.{eq-eqb, ne_eqb, eqb-true, eqb-false}
+use Rattle.std.specs.Prelude.{Option, Some, None, MatchOption, is_some}
 use Rattle.image.specs.Hexadecimal.{bytes_of}
-use Rattle.image.specs.Lines.{lines, first_line}
-use Rattle.image.specs.IntelHex.{record_head, data_part, intel_hex}
-use Rattle.image.specs.declared.record.RecordHead.{RecordHead}
+use Rattle.image.specs.Lines.{lines}
+use Rattle.refusals.specs.Refusals.{number_of}
+use Rattle.refusals.specs.declared.Refusal.{Refusal}
+use Rattle.image.specs.IntelHex.{refused, record_head, data_part, intel_hex}
+use Rattle.image.specs.IntelHex.{RecordHead}
 use Rattle.image.specs.Record.{Record}
-use Rattle.image.specs.Image.{given, give, missing, Walked, walked, at, ended, unended, some, walk}
-use Rattle.image.proofs.Lines.{lines-over, line_first, line-within, line-some}
-use Rattle.image.proofs.Records.{part-within}
+use Rattle.image.specs.Image.{Given, given, give, missing, Walked, walked, at, ended, unended, some, walk}
+use Rattle.image.specs.Replies.{put}
+use Rattle.image.proofs.Records.{is-refused, part-within}
 
 -- the records of a text
 abbrev pub records : List ℕ → List Record
@@ -60,67 +63,104 @@ pub walk-closed : (line : ℕ) (r : Record) (g : List ℕ) → r.number ≡ 0 �
 unfolding ended
 walk-closed line r g b l m = walk-last line r [] g b l ∙ rw m
 
-pub walk-over : (text : List ℕ) (from line : ℕ) (g : List ℕ) → length text ≤ from → walk line (records (drop from text)) g ≡ walked (unended line g) g
-unfolding walk
-walk-over text from line g h = ap (λ (ls : List (List ℕ)). walk line (map intel_hex ls) g) (lines-over text from h)
+-- a line's record put at its addresses
+put-if : Record → List ℕ → Bool → Bool → Given
+put-if r g good last = cond good (cond last (given 0 g) (give r.address r.bytes g)) (given r.number g)
 
--- whether there is text after a line that ends at `e`
-some-if : (text : List ℕ) (e : ℕ) (b : Bool) → eqb e (length text) ≡ b → e ≤ length text → some (records (drop e text)) ≡ not b
-some-if text e true q h = ap (λ (ls : List (List ℕ)). some (map intel_hex ls)) (lines-over text e (omega (arith, eqb-true e (length text) q)))
-some-if text e false q h =
-    ap (λ (ls : List (List ℕ)). some (map intel_hex ls)) (line_first text e (omega (arith, eqb-false e (length text) q)))
+put_is : (r : Record) (g : List ℕ) → put r g ≡ put-if r g (eqb r.number 0) r.last
+unfolding put put-if
+put_is r g = refl
 
--- the line of a text from `from` on, with what reading its record gave
-module _ (text : List ℕ) (from : ℕ) (h : from < length text) (here : List ℕ) (cut : here ≡ first_line (drop from text)) where
-  pub here-within : from + length here ≤ length text
-  here-within = omega (arith, ap (λ (l : List ℕ). length l) cut, line-within text from h)
+module _ (r : Record) (g : List ℕ) where
+  put-refused : (r.number ≡ 0 → ⊥) → put r g ≡ given r.number g
+  unfolding put-if
+  put-refused b = put_is r g ∙ rw (ne_eqb r.number 0 b)
 
-  pub here-some : 0 < length here
-  here-some = omega (arith, ap (λ (l : List ℕ). length l) cut, line-some text from h)
+  put-last : r.number ≡ 0 → r.last ≡ true → put r g ≡ given 0 g
+  unfolding put-if
+  put-last b l = put_is r g ∙ rw (eq-eqb r.number 0 b, l)
 
-  module _ (line : ℕ) (g : List ℕ) (head : RecordHead) (is : head ≡ record_head here) where
-    first : walk line (records (drop from text)) g ≡ walk line (intel_hex here ∷ records (drop (from + length here) text)) g
-    first =
-        ap (λ (ls : List (List ℕ)). walk line (map intel_hex ls) g) (line_first text from h)
-        ∙ ap (λ (l : List ℕ). walk line (intel_hex l ∷ records (drop (from + length l) text)) g) (sym cut)
+  put-data : r.number ≡ 0 → r.last ≡ false → put r g ≡ give r.address r.bytes g
+  unfolding put-if
+  put-data b l = put_is r g ∙ rw (eq-eqb r.number 0 b, l)
 
-    number_is : (intel_hex here).number ≡ head.number
+-- the same of a line, by what reading its head gave
+module _ (line g : List ℕ) where
+  pub line-refused : (r : Refusal) → refused (number_of r) ≡ record_head line → put (intel_hex line) g ≡ given (number_of r) g
+  unfolding intel_hex
+  line-refused r e =
+      let n : number_of r ≡ (record_head line).number = ap (λ (h : RecordHead). h.number) e in
+      put-refused (intel_hex line) g (λ z. is-refused line r e z) ∙ ap (λ (k : ℕ). given k g) (sym n)
+
+  module _ (h : RecordHead) (e : h ≡ record_head line) (b : h.number ≡ 0) where
+    pub line-last : (intel_hex line).last ≡ eqb h.kind 1
     unfolding intel_hex
-    number_is = ap (λ (r : RecordHead). r.number) (sym is)
+    line-last = ap (λ (r : RecordHead). eqb r.kind 1) (sym e)
 
-    last-is : (intel_hex here).last ≡ eqb head.kind 1
+    is-good : (intel_hex line).number ≡ 0
     unfolding intel_hex
-    last-is = ap (λ (r : RecordHead). eqb r.kind 1) (sym is)
+    is-good = ap (λ (r : RecordHead). r.number) (sym e) ∙ b
 
-    given_is : give (intel_hex here).address (intel_hex here).bytes g ≡ give head.address (bytes_of (take (2 * head.length) (drop 9 here))) g
+    pub line-end : h.kind ≡ 1 → put (intel_hex line) g ≡ given 0 g
+    line-end k = put-last (intel_hex line) g is-good (line-last ∙ eq-eqb _ _ k)
+
+    pub line-data : (h.kind ≡ 1 → ⊥) → (part : List ℕ) → part ≡ take (2 * h.length) (drop 9 line)
+        → put (intel_hex line) g ≡ give h.address (bytes_of part) g
     unfolding intel_hex data_part
-    given_is = ap (λ (r : RecordHead). give r.address (bytes_of (take (2 * r.length) (drop 9 here))) g) (sym is)
+    line-data k part at_part =
+        put-data (intel_hex line) g is-good (line-last ∙ ne_eqb _ _ k)
+        ∙ ap (λ (r : RecordHead). give r.address (bytes_of (take (2 * r.length) (drop 9 line))) g) (sym e)
+        ∙ ap (λ (l : List ℕ). give h.address (bytes_of l) g) (sym at_part)
 
-    pub data-within : head.number ≡ 0 → 9 + 2 * head.length ≤ length here
-    data-within b =
-        omega (arith, ap (λ (r : RecordHead). r.length) is, part-within here (sym (ap (λ (r : RecordHead). r.number) is) ∙ b))
+    pub line-within : 9 + 2 * h.length ≤ length line
+    line-within = omega (arith, ap (λ (r : RecordHead). r.length) e, part-within line (sym (ap (λ (r : RecordHead). r.number) e) ∙ b))
 
-    pub text-refused : (head.number ≡ 0 → ⊥) → walk line (records (drop from text)) g ≡ walked (at (line + 1) head.number) g
-    text-refused b =
-        first ∙ walk_refused line (intel_hex here) (records (drop (from + length here) text)) g (λ z. b (sym number_is ∙ z))
-        ∙ ap (λ (m : ℕ). walked (at (line + 1) m) g) number_is
+-- whether there is a line after an end record
+pub some-next : {X : Type 0} (o : Option X) (ls more : List (List ℕ)) (view : X → List ℕ)
+    → MatchOption o ((ls ≡ []) × (more ≡ [])) (λ x. ls ≡ view x ∷ more) → is_some o ≡ some (map intel_hex ls)
+some-next None ls more view h = sym (ap (λ (l : List (List ℕ)). some (map intel_hex l)) h.0)
+some-next (Some x) ls more view h = sym (ap (λ (l : List (List ℕ)). some (map intel_hex l)) h)
 
-    pub text-last : head.number ≡ 0 → head.kind ≡ 1
-        → walk line (records (drop from text)) g ≡ walked (ended (line + 1) (not (eqb (from + length here) (length text))) g) g
-    text-last b k =
-        first ∙ walk-last line (intel_hex here) (records (drop (from + length here) text)) g (number_is ∙ b) (last-is ∙ eq-eqb _ _ k)
-        ∙ ap (λ (a : Bool). walked (ended (line + 1) a g) g) (some-if text (from + length here) (eqb (from + length here) (length text)) refl here-within)
+-- the first of the lines that are left, with what putting its record left
+module _ (line : ℕ) (ls more : List (List ℕ)) (here g : List ℕ) (cut : ls ≡ here ∷ more) (n : ℕ) (g' : List ℕ) (p : given n g' ≡ put (intel_hex here) g) where
+  abbrev r : Record
+  r = intel_hex here
 
-    module _ (b : head.number ≡ 0) (k : head.kind ≡ 1 → ⊥) (part : List ℕ) (at_part : part ≡ take (2 * head.length) (drop 9 here))
-        (r : ℕ) (g' : List ℕ) (gave : given r g' ≡ give head.address (bytes_of part) g) where
-      gives : give (intel_hex here).address (intel_hex here).bytes g ≡ given r g'
-      gives = given_is ∙ ap (λ (l : List ℕ). give head.address (bytes_of l) g) (sym at_part) ∙ sym gave
+  first : walk line (map intel_hex ls) g ≡ walk line (r ∷ map intel_hex more) g
+  first = ap (λ (l : List (List ℕ)). walk line (map intel_hex l) g) cut
 
-      pub text-on : r ≡ 0 → walk line (records (drop from text)) g ≡ walk (line + 1) (records (drop (from + length here) text)) g'
-      text-on z =
-          first ∙ walk-on line (intel_hex here) (records (drop (from + length here) text)) g (number_is ∙ b) (last-is ∙ ne_eqb _ _ k) g'
-          (gives ∙ ap (λ (m : ℕ). given m g') z)
+  stop-if : (good last : Bool) → eqb r.number 0 ≡ good → r.last ≡ last → (n ≡ 0 → ⊥) → walk line (r ∷ map intel_hex more) g ≡ walked (at (line + 1) n) g'
+  stop-if true true b l z = absurd (z (ap (λ (q : Given). q.number) (p ∙ put-last r g (eqb-true _ _ b) l)))
+  stop-if true false b l z =
+      walk-outside line r (map intel_hex more) g (eqb-true _ _ b) l n g' (sym (p ∙ put-data r g (eqb-true _ _ b) l)) z
+  stop-if false last b l z =
+      let q = p ∙ put-refused r g (eqb-false _ _ b) in
+      walk_refused line r (map intel_hex more) g (eqb-false _ _ b)
+      ∙ ap (λ (k : Given). walked (at (line + 1) k.number) k.bytes) (sym q)
 
-      pub text-outside : (r ≡ 0 → ⊥) → walk line (records (drop from text)) g ≡ walked (at (line + 1) r) g'
-      text-outside z =
-          first ∙ walk-outside line (intel_hex here) (records (drop (from + length here) text)) g (number_is ∙ b) (last-is ∙ ne_eqb _ _ k) r g' gives z
+  pub text-stop : (n ≡ 0 → ⊥) → walk line (map intel_hex ls) g ≡ walked (at (line + 1) n) g'
+  text-stop z = first ∙ stop-if (eqb r.number 0) r.last refl refl z
+
+  end-if : (good : Bool) → eqb r.number 0 ≡ good → n ≡ 0 → r.last ≡ true → walk line (r ∷ map intel_hex more) g ≡ walked (ended (line + 1) (some (map intel_hex more)) g') g'
+  end-if true b z l =
+      walk-last line r (map intel_hex more) g (eqb-true _ _ b) l
+      ∙ ap (λ (q : Given). walked (ended (line + 1) (some (map intel_hex more)) q.bytes) q.bytes) (sym (p ∙ put-last r g (eqb-true _ _ b) l))
+  end-if false b z l = absurd (eqb-false _ _ b (sym (ap (λ (q : Given). q.number) (p ∙ put-refused r g (eqb-false _ _ b))) ∙ z))
+
+  pub text-end : n ≡ 0 → r.last ≡ true → walk line (map intel_hex ls) g ≡ walked (ended (line + 1) (some (map intel_hex more)) g') g'
+  text-end z l = first ∙ end-if (eqb r.number 0) refl z l
+
+  on-if : (good : Bool) → eqb r.number 0 ≡ good → n ≡ 0 → r.last ≡ false → walk line (r ∷ map intel_hex more) g ≡ walk (line + 1) (map intel_hex more) g'
+  on-if true b z l =
+      walk-on line r (map intel_hex more) g (eqb-true _ _ b) l g' (sym (p ∙ put-data r g (eqb-true _ _ b) l) ∙ ap (λ (k : ℕ). given k g') z)
+  on-if false b z l = absurd (eqb-false _ _ b (sym (ap (λ (q : Given). q.number) (p ∙ put-refused r g (eqb-false _ _ b))) ∙ z))
+
+  pub text-on : n ≡ 0 → r.last ≡ false → walk line (map intel_hex ls) g ≡ walk (line + 1) (map intel_hex more) g'
+  text-on z l = first ∙ on-if (eqb r.number 0) refl z l
+
+pub walk-over : (line : ℕ) (ls : List (List ℕ)) (g : List ℕ) → ls ≡ [] → walk line (map intel_hex ls) g ≡ walked (unended line g) g
+unfolding walk
+walk-over line ls g e = ap (λ (l : List (List ℕ)). walk line (map intel_hex l) g) e
+
+-- what `take_line` uses
+pub ruleset puts = (line-refused, line-last, line-end, line-data, line-within)

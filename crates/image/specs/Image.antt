@@ -2,7 +2,6 @@
 use Rattle.std.specs.Prelude.{Bool, true, false, cond, ◌||◌, List, [], ◌∷◌, ◌++◌, map, ℕ, zero, suc, ◌+◌, ◌*◌, ◌/◌, ◌%◌, length, slice_index, take, drop, set, replicate, ◌==◌}
 use Rattle.image.specs.Lines.{lines}
 use Rattle.image.specs.Record.{Record}
-use Rattle.image.specs.declared.text.Loading.{Loading}
 
 -- what giving bytes leaves: 15 or 0, and the byte given for each address, 256 where none was
 pub record Given : Type 0 where
@@ -23,6 +22,11 @@ give address (b ∷ bs) g =
 unfoldable pub missing : List ℕ → Bool
 missing [] = false
 missing (b ∷ g) = b == 256 || missing g
+
+-- how reading a text ended: the refusal or 0, and the line that decided, counted from 1 (0 if none was looked at)
+pub record Loading : Type 0 where
+  pub number : ℕ
+  pub line : ℕ
 
 -- what has become of a text: its refusal or 0, the line that decided, counted from 1, and what was given
 pub record Walked : Type 0 where

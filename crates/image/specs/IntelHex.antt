@@ -4,7 +4,6 @@ use Rattle.std.specs.Prelude.{Bool, cond, not, ◌&&◌, List, ℕ, ◌+◌, ◌
 use Rattle.image.specs.Hexadecimal.{all_digits, byte_at, bytes_of, total}
 use Rattle.image.specs.Lines.{line_feed, carriage_return}
 use Rattle.image.specs.Record.{Record}
-use Rattle.image.specs.declared.record.RecordHead.{RecordHead}
 
 abbrev pub data_length : List ℕ → ℕ
 data_length line = byte_at line 1
@@ -40,6 +39,13 @@ formed line =
 -- not "13 bad check byte": all bytes of the record add up to 0 modulo 256
 abbrev pub checked : List ℕ → Bool
 checked line = (total (bytes_of (characters line)) % 256) == 0
+
+-- what a record says of itself: its refusal or 0, its type, the address of its first byte, and how many bytes it has
+pub record RecordHead : Type 0 where
+  pub number : ℕ
+  pub kind : ℕ
+  pub address : ℕ
+  pub length : ℕ
 
 -- a refused record says nothing but its number
 abbrev pub refused : ℕ → RecordHead

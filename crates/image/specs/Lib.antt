@@ -4,4 +4,5 @@ pub mod Lines
 pub mod Record
 pub mod IntelHex
 pub mod Image
+pub mod Replies
 pub mod Promises

@@ -1,5 +1,5 @@
 -- A text is its lines: "Lines end with a line feed or with carriage return and line feed".
-use Rattle.std.specs.Prelude.{cond, List, [], ◌∷◌, ◌++◌, ℕ, suc, take, ◌==◌}
+use Rattle.std.specs.Prelude.{cond, List, [], ◌∷◌, ◌++◌, ℕ, suc, ◌==◌}
 
 abbrev pub line_feed : ℕ
 line_feed = 10
@@ -26,6 +26,3 @@ joined (line ∷ lines) = line ++ joined lines
 unfoldable pub line_length : List ℕ → ℕ
 line_length [] = 0
 line_length (c ∷ text) = suc (cond (c == line_feed) 0 (line_length text))
-
-abbrev pub first_line : List ℕ → List ℕ
-first_line text = take (line_length text) text

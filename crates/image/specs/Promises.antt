@@ -1,16 +1,26 @@
 -- What a reader asks of any load.
-use Rattle.std.specs.Prelude.{◌≡◌, Bool, cond, ◌&&◌, ℕ, ◌+◌, ◌-◌, length, take, nat_le}
+use Rattle.std.specs.Prelude.{◌≡◌, Result, Bool, cond, ◌&&◌, ℕ, ◌+◌, ◌-◌, length, take, nat_le}
 use mathlib.Core.List.{List, [], ◌∷◌, ◌++◌, map, Permᴰ}
 use Rattle.image.specs.Lines.{line_feed, carriage_return, lines, joined}
 use Rattle.image.specs.IntelHex.{ending, intel_hex}
-use Rattle.image.specs.Image.{loaded, load}
-use Rattle.image.specs.declared.text.Loading.{Loading}
+use Rattle.image.specs.Image.{Loading, loaded, load}
+use Rattle.image.specs.Replies.{head_of, loading_of}
+use Rattle.image.specs.declared.record.RecordHead.{RecordHead as Head}
+use Rattle.image.specs.declared.text.Fault.{Fault}
+use Rattle.refusals.specs.declared.Refusal.{Refusal}
 
 -- two answers that meet the contract of a load are equal, and so are the images that they leave
 abbrev pub OneAnswer : Type 0
 OneAnswer =
     (width size : ℕ) (text image : List ℕ) (x y : Loading) (a b : List ℕ)
     → loaded x a ≡ load intel_hex width size text image → loaded y b ≡ load intel_hex width size text image → (x ≡ y) × (a ≡ b)
+
+-- no two replies of the code say the same
+abbrev pub OneLoading : Type 0
+OneLoading = (x y : Result ℕ Fault) → loading_of x ≡ loading_of y → x ≡ y
+
+abbrev pub OneHead : Type 0
+OneHead = (x y : Result Head Refusal) → head_of x ≡ head_of y → x ≡ y
 
 -- "An image is filled whole or not touched": a refused one is as it was
 abbrev pub Untouched : Type 0

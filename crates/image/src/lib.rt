@@ -7,5 +7,5 @@ mod record;
 mod text;
 
 pub use filling::{load_cells, load_data, load_program};
-pub use record::{RecordHead, data_part, record_head};
-pub use text::Loading;
+pub use record::{RecordHead, RecordType, data_part, record_head};
+pub use text::Fault;

@@ -1,15 +1,47 @@
 // One line of Intel HEX.
-ghost use Rattle.std.specs.Prelude.{◌≡◌, ◌+◌, ◌*◌, ◌≤◌, length, take, drop};
+ghost use Rattle.std.specs.Prelude.{◌≡◌, ◌+◌, ◌*◌, ◌≤◌, ◌<◌, length, take, drop, Ok, Err};
+ghost use Rattle.refusals.specs.declared.Refusal.TheVariants.{NoSuchRecordType};
 ghost use Rattle.image.specs.IntelHex as spec;
+ghost use Rattle.image.specs.Replies.{type_of, head_of, type_read};
 
 use crate::digits::{all_digits, byte_at, sum};
+use refusals::Refusal;
 
-// What a record says of itself: its refusal or 0, its type, the address of its first byte, and how many bytes it has.
-#[repr(C)]
-#[derive(Clone, Copy)]
+#[derive(Clone, Copy, PartialEq, Eq, Debug)]
+pub enum RecordType {
+    Data,
+    End,
+}
+
+impl From<RecordType> for u8 {
+    ghost from_gives = { λ kind n. n ≡ type_of kind };
+
+    fn from(kind: RecordType) -> u8 {
+        match kind {
+            RecordType::Data => 0,
+            RecordType::End => 1,
+        }
+    }
+}
+
+impl TryFrom<u8> for RecordType {
+    type Error = Refusal;
+
+    ghost try_from_gives = { λ n read. read ≡ type_read n };
+
+    fn try_from(n: u8) -> Result<RecordType, Refusal> {
+        match n {
+            0 => Ok(RecordType::Data),
+            1 => Ok(RecordType::End),
+            _ => Err(Refusal::NoSuchRecordType),
+        }
+    }
+}
+
+// What a record says of itself: its type, the address of its first byte, and how many bytes it has.
+#[derive(Clone, Copy, PartialEq, Eq, Debug)]
 pub struct RecordHead {
-    pub number: u8,
-    pub kind: u8,
+    pub kind: RecordType,
     pub address: u16,
     pub length: u8,
 }
@@ -20,12 +52,12 @@ pub(crate) fn ending(line: &[u8]) -> usize
     requires { 2 ≤ length line.now }
     ensures { result ≡ spec.ending line.now }
 {
-    let n = line.len();
-    let k = n - 2;
-    if line[k] == 13 {
-        return k;
+    let feed = line.len() - 1;
+    if line[feed - 1] == b'\r' {
+        feed - 1
+    } else {
+        feed
     }
-    n - 1
 }
 
 // What stands between the colon and the ending.
@@ -33,77 +65,44 @@ pub(crate) fn characters(line: &[u8]) -> &[u8]
     requires { 3 ≤ length line.now }
     ensures { result.now ≡ spec.characters line.now }
 {
-    let e = ending(line);
-    &line[1..e]
+    let end = ending(line);
+    &line[1..end]
 }
 
-#[tactic(auto, unfolding(crate::specs::IntelHex::formed))]
+#[tactic(auto, using(crate::proofs::Characters::digits), unfolding(crate::specs::IntelHex::formed))]
 pub(crate) fn formed(line: &[u8]) -> bool
     ensures { result ≡ spec.formed line.now }
 {
     let n = line.len();
-    if n < 12 {
-        return false;
-    }
-    if line[0] != 58 {
-        return false;
-    }
-    let last = n - 1;
-    if line[last] != 10 {
-        return false;
-    }
-    if !all_digits(characters(line)) {
+    if n < 12 || line[0] != b':' || line[n - 1] != b'\n' || !all_digits(characters(line)) {
         return false;
     }
     let length = byte_at(line, 1);
-    if ending(line) != 11 + 2 * (length as usize) {
-        return false;
-    }
-    let kind = byte_at(line, 7);
-    !((kind == 1) & !(length == 0))
-}
-
-pub(crate) fn refused(number: u8) -> RecordHead
-    ensures { result ≡ spec.refused number }
-{
-    RecordHead {
-        number: number,
-        kind: 0,
-        address: 0,
-        length: 0,
-    }
+    ending(line) == 11 + 2 * usize::from(length) && !(byte_at(line, 7) == 1 && length != 0)
 }
 
 // What a record with a good check byte says of itself.
 #[tactic(auto, unfolding(crate::specs::IntelHex::said))]
-pub(crate) fn said(line: &[u8]) -> RecordHead
+pub(crate) fn said(line: &[u8]) -> Result<RecordHead, Refusal>
     requires { 12 ≤ length line.now }
-    ensures { result ≡ spec.said line.now }
+    ensures { head_of result ≡ spec.said line.now }
 {
-    let kind = byte_at(line, 7);
-    if 1 < kind {
-        return refused(14);
-    }
-    let length = byte_at(line, 1);
-    let high = byte_at(line, 3);
-    let low = byte_at(line, 5);
-    RecordHead {
-        number: 0,
-        kind: kind,
-        address: (high as u16) * 256 + (low as u16),
-        length: length,
-    }
+    Ok(RecordHead {
+        kind: RecordType::try_from(byte_at(line, 7))?,
+        address: u16::from_be_bytes([byte_at(line, 3), byte_at(line, 5)]),
+        length: byte_at(line, 1),
+    })
 }
 
 #[tactic(auto, using(crate::proofs::Records::heads), unfolding(crate::specs::IntelHex::record_head))]
-pub fn record_head(line: &[u8]) -> RecordHead
-    ensures { result ≡ spec.record_head line.now }
+pub fn record_head(line: &[u8]) -> Result<RecordHead, Refusal>
+    ensures { head_of result ≡ spec.record_head line.now }
 {
     if !formed(line) {
-        return refused(12);
+        return Err(Refusal::BadRecord);
     }
     if sum(characters(line)) != 0 {
-        return refused(13);
+        return Err(Refusal::BadCheckByte);
     }
     said(line)
 }
@@ -115,8 +114,8 @@ pub(crate) fn data_characters(line: &[u8], bytes: u8) -> &[u8]
     ensures allocation { result.ref_ptr.0 ≡ line.entry.ref_ptr.0 }
     ensures place { result.ref_ptr.1 ≡ line.entry.ref_ptr.1 + 9 }
 {
-    let e = 9 + 2 * (bytes as usize);
-    &line[9..e]
+    let end = 9 + 2 * usize::from(bytes);
+    &line[9..end]
 }
 
 // The record's data characters, the very part of the caller's line.
@@ -126,10 +125,8 @@ pub fn data_part(line: &[u8]) -> &[u8]
     ensures allocation { result.ref_ptr.0 ≡ line.entry.ref_ptr.0 }
     ensures place { result.ref_ptr.1 ≡ line.entry.ref_ptr.1 + spec.data_start line.now }
 {
-    let head = record_head(line);
-    let number = head.number;
-    if number != 0 {
-        return &line[0..0];
+    match record_head(line) {
+        Ok(head) => data_characters(line, head.length),
+        Err(_) => &line[0..0],
     }
-    data_characters(line, head.length)
 }

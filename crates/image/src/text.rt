@@ -1,146 +1,156 @@
 // A text of records, put byte by byte at their addresses.
-ghost use Rattle.std.specs.Prelude.{◌≡◌, map, ◌+◌, ◌<◌, ◌≤◌, length, drop};
+ghost use Rattle.std.specs.Prelude.{◌≡◌, map, ◌+◌, ◌<◌, ◌==◌, length, slice_index, position, is_none, IsTrue, IfOk};
+ghost use Rattle.std.specs.List.{list_any};
+ghost use Rattle.std.specs.Iterator.{YieldsFirstRef, item_count};
 ghost use Rattle.image.specs.Hexadecimal.{bytes_of};
 ghost use Rattle.image.specs.Lines as lines;
 ghost use Rattle.image.specs.IntelHex.{intel_hex};
 ghost use Rattle.image.specs.Image as spec;
+ghost use Rattle.image.specs.Replies.{type_of, number_given, loading_of, marks, put, number_put};
 
-use crate::digits::byte_at;
-use crate::record::{data_characters, record_head};
+use crate::digits::Bytes;
+use crate::record::{RecordType, data_characters, record_head};
+use refusals::Refusal;
 
-// How reading a text ended: the refusal or 0, and the line that decided, counted from 1 (0 if none was looked at).
-#[repr(C)]
-#[derive(Clone, Copy)]
-pub struct Loading {
-    pub number: u8,
+// Why a text is refused, and the line that decided, counted from 1 (0 if none was looked at).
+#[derive(Clone, Copy, PartialEq, Eq, Debug)]
+pub struct Fault {
+    pub refusal: Refusal,
     pub line: usize,
 }
 
-pub(crate) fn ending_at(line: usize, number: u8) -> Loading
-    ensures { result ≡ spec.at line number }
+// Where the first line feed is.
+pub(crate) fn line_feed(text: &[u8]) -> Option<usize>
+    ensures { result ≡ position (λ c. c == lines.line_feed) text.now }
 {
-    Loading {
-        number: number,
-        line: line,
-    }
+    text.iter().position(|c| *c == b'\n')
 }
 
-// Where the line that begins at `at` ends, past its line feed.
+// How many characters the first line has, with its ending.
 #[tactic(auto, using(crate::proofs::Lines::lengths))]
-pub(crate) fn line_end(text: &[u8], at: usize) -> usize
-    requires { at ≤ length text.now }
-    ensures { result ≡ at + lines.line_length (drop at text.now) }
+pub(crate) fn line_length(text: &[u8]) -> usize
+    ensures { result ≡ lines.line_length text.now }
 {
-    let mut i = at;
-    while i < text.len() {
-        if text[i] == 10 {
-            return i + 1;
-        }
-        i += 1;
+    match line_feed(text) {
+        Some(feed) => feed + 1,
+        None => text.len(),
     }
-    i
 }
 
-// The line that begins at `at`, with its ending.
-pub(crate) fn line_from(text: &[u8], at: usize) -> &[u8]
-    requires { at ≤ length text.now }
-    ensures { result.now ≡ lines.first_line (drop at text.now) }
-{
-    let e = line_end(text, at);
-    &text[at..e]
+// The lines of a text, each with its ending.
+#[derive(Drop)]
+pub(crate) struct Lines<'a>(pub(crate) &'a [u8]);
+
+impl<'a> Iterator for Lines<'a> {
+    type Item = &'a [u8];
+
+    ghost next_gives = { YieldsFirstRef (λ s. lines.lines s.0.now) };
+
+    ghost remaining = { item_count (λ s. lines.lines s.0.now) };
+
+    #[tactic(auto, using(crate::proofs::Lines::cuts))]
+    fn next(&mut self) -> Option<&'a [u8]> {
+        let text = self.0;
+        if text.is_empty() {
+            return None;
+        }
+        let (line, rest) = text.split_at(line_length(text));
+        self.0 = rest;
+        Some(line)
+    }
 }
 
-// Puts the bytes that the characters spell at their addresses, where 256 says that none was given yet. Answers 15 or 0.
-#[tactic(auto, using(crate::proofs::Giving::giving))]
-pub(crate) fn give(characters: &[u8], start: usize, given: &mut [u16]) -> u8
-    requires { start < 65536 }
-    ensures { spec.given result given.new ≡ spec.give start (bytes_of characters.now) given.old }
+// Whether an address is in the image, with no byte given for it yet.
+#[tactic(auto, using(crate::proofs::Giving::places))]
+pub(crate) fn is_free(given: &[Option<u8>], address: usize) -> bool
+    ensures value { result ≡ (slice_index (marks given.now) address == 256) }
+    ensures inside { IsTrue result → address < length given.now }
 {
-    let n = characters.len();
-    let mut address = start;
-    let mut i = 0;
-    while 2 <= n - i {
-        if given.len() <= address {
-            return 15;
+    address < given.len() && given[address].is_none()
+}
+
+// Puts the bytes that the characters spell at their addresses, which are counted by hand: `enumerate` begins at 0.
+pub(crate) fn give(characters: &[u8], start: u16, given: &mut [Option<u8>]) -> Result<(), Refusal>
+    ensures { spec.given (number_given result) (marks given.new) ≡ spec.give start (bytes_of characters.now) (marks given.old) }
+{
+    let mut address = usize::from(start);
+    for byte in Bytes(characters) {
+        if !is_free(given, address) {
+            return Err(Refusal::AddressNotOnce);
         }
-        if given[address] != 256 {
-            return 15;
-        }
-        let b = byte_at(characters, i);
-        given[address] = b as u16;
+        given[address] = Some(byte);
         address += 1;
-        i += 2;
     }
-    0
+    Ok(())
 }
 
 // Whether no byte was given for some address.
-#[tactic(auto, using(crate::proofs::Giving::missings))]
-pub(crate) fn missing(given: &[u16]) -> bool
-    ensures { result ≡ spec.missing given.now }
+pub(crate) fn missing(given: &[Option<u8>]) -> bool
+    ensures { result ≡ list_any (λ byte. is_none byte) given.now }
 {
-    let mut i = 0;
-    while i < given.len() {
-        if given[i] == 256 {
-            return true;
-        }
-        i += 1;
-    }
-    false
+    given.iter().any(|byte| byte.is_none())
 }
 
 // After the end record in line `line`, with text after it or not.
-#[tactic(auto, unfolding(crate::specs::Image::ended))]
-pub(crate) fn ended(line: usize, after: bool, given: &[u16]) -> Loading
-    requires { line < 18446744073709551615 }
-    ensures { result ≡ spec.ended line after given.now }
+#[tactic(auto, using(crate::proofs::Giving::missings), unfolding(crate::specs::Image::ended))]
+pub(crate) fn ended(line: usize, after: bool, given: &[Option<u8>]) -> Result<usize, Fault>
+    requires { line < usize.MAX }
+    ensures { loading_of result ≡ spec.ended line after (marks given.now) }
 {
     if missing(given) {
-        return ending_at(line, 15);
+        return Err(Fault {
+            refusal: Refusal::AddressNotOnce,
+            line,
+        });
     }
     if after {
-        return ending_at(line + 1, 16);
+        return Err(Fault {
+            refusal: Refusal::NoEndRecord,
+            line: line + 1,
+        });
     }
-    ending_at(line, 0)
+    Ok(line)
 }
 
-// After the last line of a text without an end record.
-#[tactic(auto, unfolding(crate::specs::Image::unended))]
-pub(crate) fn unended(line: usize, given: &[u16]) -> Loading
-    ensures { result ≡ spec.unended line given.now }
+// After the last line of a text without an end record. `ended` and this have a definition each, whose lines they are; what they share is `missing`.
+#[tactic(auto, using(crate::proofs::Giving::missings), unfolding(crate::specs::Image::unended))]
+pub(crate) fn unended(line: usize, given: &[Option<u8>]) -> Fault
+    ensures { loading_of (Err result) ≡ spec.unended line (marks given.now) }
 {
-    if missing(given) {
-        return ending_at(line, 15);
-    }
-    ending_at(line, 16)
+    let refusal = if missing(given) {
+        Refusal::AddressNotOnce
+    } else {
+        Refusal::NoEndRecord
+    };
+    Fault { refusal, line }
 }
 
-// The records of a text in turn.
-pub(crate) fn walk(text: &[u8], given: &mut [u16]) -> Loading
-    ensures { spec.walked result given.new ≡ spec.walk 0 (map intel_hex (lines.lines text.now)) given.old }
+// Puts a line's bytes at their addresses, and says of which type its record is.
+#[tactic(auto, using(crate::proofs::Walking::puts))]
+pub(crate) fn take_line(line: &[u8], given: &mut [Option<u8>]) -> Result<RecordType, Refusal>
+    ensures put { spec.given (number_put result) (marks given.new) ≡ put (intel_hex line.now) (marks given.old) }
+    ensures last { IfOk result (λ kind. (intel_hex line.now).last ≡ (type_of kind == 1)) }
 {
-    let n = text.len();
+    let head = record_head(line)?;
+    if head.kind == RecordType::Data {
+        give(data_characters(line, head.length), head.address, given)?;
+    }
+    Ok(head.kind)
+}
+
+// The records of a text in turn; the line that ends a text that is taken. Lines are counted by hand: the count is asked for after the loop, too.
+pub(crate) fn walk(text: &[u8], given: &mut [Option<u8>]) -> Result<usize, Fault>
+    ensures { spec.walked (loading_of result) (marks given.new) ≡ spec.walk 0 (map intel_hex (lines.lines text.now)) (marks given.old) }
+{
     let mut line = 0;
-    let mut at = 0;
-    while at < n {
-        let here = line_from(text, at);
-        let e = at + here.len();
-        let head = record_head(here);
+    let mut rest = Lines(text);
+    while let Some(here) = rest.next() {
         line += 1;
-        let number = head.number;
-        if number != 0 {
-            return ending_at(line, number);
+        match take_line(here, given) {
+            Ok(RecordType::Data) => {}
+            Ok(RecordType::End) => return ended(line, rest.next().is_some(), given),
+            Err(refusal) => return Err(Fault { refusal, line }),
         }
-        let kind = head.kind;
-        if kind == 1 {
-            return ended(line, e != n, given);
-        }
-        let address = head.address;
-        let fault = give(data_characters(here, head.length), address as usize, given);
-        if fault != 0 {
-            return ending_at(line, fault);
-        }
-        at = e;
     }
-    unended(line, given)
+    Err(unended(line, given))
 }

@@ -12,7 +12,7 @@ use Rattle.image.specs.Hexadecimal.{bytes_of}
 use Rattle.image.specs.Lines.{lines}
 use Rattle.image.specs.Record.{Record}
 use Rattle.image.specs.IntelHex.{data_length, record_type, record_head, data_part, intel_hex}
-use Rattle.image.specs.declared.record.RecordHead.{RecordHead}
+use Rattle.image.specs.IntelHex.{RecordHead}
 use Rattle.image.specs.Image.{given, give, Walked, at, walk, Loaded}
 use Rattle.image.proofs.CellBytes.{Bytes, bytes_below}
 use Rattle.image.proofs.Records.{formed-has, good, head-good, length-good, refused-length}

@@ -1,16 +1,17 @@
 -- The three ways in which a preset's text is written. Assumes nothing.
 use mathlib.Core.Path.{◌≡◌, sym, ap, ◌∙◌}
 use mathlib.Core.List.{List, ◌++◌}
-use Prim.Native.Nat.{ℕ, ◌+◌, ◌<◌, ◌≤◌}
+use Prim.Native.Nat.{ℕ, ◌+◌, ◌<◌, ◌≤◌, min}
 use native.Mathlib.Omega.{arith}
 use lib.ListN.{length, drop}
 use lib.Seq.{sets, sets-eq}
 use borrow.Author.Tests.{eq-eqb, ne_eqb, le-leb, lt-leb}
-use Rattle.image.specs.Image.{cell_bytes}
+use Rattle.image.specs.IntelHex.{intel_hex}
+use Rattle.image.specs.Image.{cell_bytes, Loaded, load}
+use Rattle.image.proofs.Loads.{load-short}
 use Rattle.image.proofs.CellBytes.{length-bytes}
 use Rattle.preset.specs.Written.{text_of}
-use Rattle.preset.specs.Preset.{preset_text, written, refused, written_to, write_preset}
-use Rattle.preset.specs.declared.writing.Writing.{Writing}
+use Rattle.preset.specs.Preset.{preset_text, Writing, written, refused, written_to, write_preset}
 use Rattle.preset.proofs.Texts.{length-text}
 
 -- "716 characters"
@@ -39,13 +40,25 @@ module _ (ram buffer : List ℕ) where
       pub ram-text : (length bytes ≤ 65536) × (length (text_of bytes) ≤ length buffer)
       ram-text = rw are (omega (arith, length-bytes 2 ram), omega (arith, length-preset ram n))
 
-      pub all-written : (left : List ℕ) → left ≡ sets buffer 0 (text_of bytes) → written done left ≡ write_preset ram buffer
-      all-written left e =
+      pub all-written : (left : List ℕ) (at : ℕ) → left ≡ sets buffer 0 (text_of bytes) → at ≡ length (text_of bytes)
+          → written (record { number = 0; length = at }) left ≡ write_preset ram buffer
+      all-written left at e l =
+          let long : length (text_of bytes) ≡ 716 = ap (λ (bs : List ℕ). length (text_of bs)) are ∙ length-preset ram n in
           let k : 0 + length (preset_text ram) ≡ 716 = omega (arith, length-preset ram n) in
-          ap (written done)
+          let m : at ≡ 716 = omega (arith, long) in
+          rw m
+          (ap (written done)
           (e ∙ ap (λ (bs : List ℕ). sets buffer 0 (text_of bs)) are ∙ sets-eq (preset_text ram) buffer 0 (omega (arith, k))
           ∙ ap (λ (j : ℕ). preset_text ram ++ drop j buffer) k)
-          ∙ sym (is-written h)
+          ∙ sym (is-written h))
 
--- what `write_preset` uses
+-- the bound on an image's cells does not matter to a RAM
+pub load-ram : (text ram : List ℕ) {x : Loaded} → length ram ≡ 128 → x ≡ load intel_hex 2 (min (length ram) 512) text ram → x ≡ load intel_hex 2 128 text ram
+load-ram text ram e p =
+    let same : min (length ram) 512 ≡ 128 = omega arith in
+    p ∙ ap (λ (n : ℕ). load intel_hex 2 n text ram) same
+
+-- what `load_preset` and `write_preset` use
+pub ruleset loads = (load-short, load-ram)
+
 pub ruleset writings = (other_length, too_short, ram-text, all-written)

@@ -10,8 +10,7 @@ use lib.Dec.{ltb}
 use borrow.Author.Tests.{lt-ltb, le-ltb, ltb-true, ltb-false, eqb-true}
 use Rattle.numbers.specs.Every.{Every}
 use Rattle.image.specs.Hexadecimal.{digit, byte, byte_at, bytes_of, all_digits, total}
-use Rattle.image.specs.IntelHex.{ending, characters, record_head}
-use Rattle.image.specs.declared.record.RecordHead.{RecordHead}
+use Rattle.image.specs.IntelHex.{RecordHead, ending, characters, record_head}
 use Rattle.image.proofs.Members.{taken, dropped, both}
 use Rattle.image.proofs.CellBytes.{Byte, Bytes, member_below, bytes_below}
 use Rattle.image.proofs.Characters.{bytes-step}

@@ -1,12 +1,13 @@
 -- One line of a record: its parts, how long it is, and that its parts are stored one after the other. Assumes nothing.
 use mathlib.Core.Path.{◌≡◌, sym, ap, ◌∙◌}
 use mathlib.Core.List.{List, [], ◌∷◌, ◌++◌, append_assoc}
-use Prim.Native.Nat.{ℕ, ◌+◌, ◌-◌, ◌*◌, ◌/◌, ◌%◌}
+use Prim.Native.Nat.{ℕ, ◌+◌, ◌*◌, ◌/◌, ◌%◌, ◌<◌}
 use native.Mathlib.Omega.{arith}
-use native.Mathlib.Numerals.{add-one}
-use lib.ListN.{length, set, length-append}
+use lib.ListN.{length, get_or, set, length-append}
 use lib.Seq.{sets}
+use Rattle.std.specs.List.{fold}
 use Rattle.image.specs.Hexadecimal.{total}
+use Rattle.image.proofs.Characters.{sum-all}
 use Rattle.preset.specs.Written.{spelled, check_byte, content, record_line}
 use Rattle.preset.proofs.Spelled.{length-spelled, spelled-append}
 use Rattle.preset.proofs.Stores.{sets_then}
@@ -35,27 +36,40 @@ module _ (kind address : ℕ) (bs : List ℕ) where
       omega (arith, length-append (spelled l) (10 ∷ []), length-spelled l, length-append bs (check ∷ []))
 
   -- colon, head, data, check byte and line feed, each behind the one before
-  pub line-stored : (text headed filled checked : List ℕ) (at : ℕ) (c : ℕ) → headed ≡ sets (set text at 58) (at + 1) (spelled (head kind address bs))
-      → filled ≡ sets headed (at + 9) (spelled bs) → checked ≡ sets filled (at + 9 + 2 * length bs) (spelled (c ∷ [])) → c ≡ check
-      → set checked (at + 9 + 2 * length bs + 2) 10 ≡ sets text at (record_line kind address bs)
-  line-stored text headed filled checked at c p q r e =
-      let o = set text at 58 in
-      let h = spelled (head kind address bs) in
-      let d = spelled bs in
-      let k = spelled (check ∷ []) in
-      let b = at + 9 + 2 * length bs in
-      let nd : length d ≡ 2 * length bs = length-spelled bs in
-      let n : length h ≡ 8 = length-spelled (head kind address bs) in
-      let m : length k ≡ 2 = length-spelled (check ∷ []) in
-      ap (λ (l : List ℕ). set l (b + 2) 10)
-      (r ∙ ap (λ (x : ℕ). sets filled b (spelled (x ∷ []))) e ∙ ap (λ (l : List ℕ). sets l b k) (q ∙ ap (λ (l : List ℕ). sets l (at + 9) d) p))
-      ∙ sets_then k (10 ∷ []) (sets (sets (sets o (at + 1) h) (at + 9) d) b []) b (b + 2) (omega arith)
-      ∙ sets_then d (k ++ 10 ∷ []) (sets o (at + 1) h) (at + 9) b (omega arith)
-      ∙ sets_then h (d ++ (k ++ 10 ∷ [])) o (at + 1) (at + 9) (omega arith)
-      ∙ ap (λ (a : ℕ). sets o a (h ++ (d ++ (k ++ 10 ∷ [])))) (add-one at)
-      ∙ ap (sets text at) (sym parts)
+  module _ (text begun headed filled checked ended : List ℕ) (at behind_colon behind_head behind_data behind_check c : ℕ) where
+    pub line-stored : begun ≡ set text at 58 → behind_colon ≡ at + 1
+        → headed ≡ sets begun behind_colon (spelled (head kind address bs)) → behind_head ≡ behind_colon + 8
+        → filled ≡ sets headed behind_head (spelled bs) → behind_data ≡ behind_head + 2 * length bs
+        → checked ≡ sets filled behind_data (spelled (c ∷ [])) → behind_check ≡ behind_data + 2
+        → ended ≡ set checked behind_check 10 → c ≡ check → ended ≡ sets text at (record_line kind address bs)
+    line-stored b p h q f r k s e is =
+        let hs = spelled (head kind address bs) in
+        let ds = spelled bs in
+        let ks = spelled (check ∷ []) in
+        let n : length hs ≡ 8 = length-spelled (head kind address bs) in
+        let m : length ks ≡ 2 = length-spelled (check ∷ []) in
+        e
+        ∙ ap (λ (l : List ℕ). sets l behind_check (10 ∷ [])) (k ∙ ap (λ (x : ℕ). sets filled behind_data (spelled (x ∷ []))) is)
+        ∙ sets_then ks (10 ∷ []) filled behind_data behind_check (omega arith)
+        ∙ ap (λ (l : List ℕ). sets l behind_data (ks ++ 10 ∷ [])) f
+        ∙ sets_then ds (ks ++ 10 ∷ []) headed behind_head behind_data (omega (arith, length-spelled bs))
+        ∙ ap (λ (l : List ℕ). sets l behind_head (ds ++ (ks ++ 10 ∷ []))) h
+        ∙ sets_then hs (ds ++ (ks ++ 10 ∷ [])) begun behind_colon behind_head (omega arith)
+        ∙ ap (λ (l : List ℕ). sets l behind_colon (hs ++ (ds ++ (ks ++ 10 ∷ [])))) b
+        ∙ sets_then (58 ∷ []) (hs ++ (ds ++ (ks ++ 10 ∷ []))) text at behind_colon (omega arith)
+        ∙ ap (sets text at) (sym parts)
 
-  -- the check byte by two sums modulo 256
-  pub check-is : (s t : ℕ) → s ≡ total (head kind address bs) % 256 → t ≡ total bs % 256 → (256 - (s + t) % 256) % 256 ≡ check
-  unfolding total
-  check-is s t e f = omega arith
+  -- the head by the bytes of the address
+  module _ (w : List ℕ) (k : ℕ) (small : address < 65536) (e : w ≡ address / 256 % 256 ∷ address % 256 ∷ []) (same : k ≡ kind) where
+    abbrev pub put : List ℕ
+    put = length bs ∷ get_or w 0 0 ∷ get_or w 1 0 ∷ k ∷ []
+
+    pub head-is : put ≡ head kind address bs
+    head-is =
+        let high : address / 256 % 256 ≡ address / 256 = omega arith in
+        rw (e, high, same)
+
+    -- the check byte is what the sum of the others leaves to 0
+    pub check-is : (c : ℕ) → c < 256 → (c + fold (λ sum byte. (sum + byte) % 256) 0 (put ++ bs)) % 256 ≡ 0 → c ≡ check
+    check-is c below z =
+        omega (arith, z, sum-all (put ++ bs), ap (λ (h : List ℕ). total (h ++ bs)) head-is)

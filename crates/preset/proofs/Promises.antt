@@ -8,13 +8,15 @@ use lib.Seq.{take_at, drop_at}
 use Rattle.numbers.specs.Every.{Every}
 use Rattle.image.specs.Lines.{lines, joined}
 use Rattle.image.specs.Image.{at, cells, cell_bytes, Loaded, loaded}
+use Rattle.std.specs.Prelude.{Ok, Err}
+use Rattle.refusals.proofs.Numbers.{one_number, not_0}
 use Rattle.image.proofs.Fills.{cells-length}
 use Rattle.image.proofs.Promises.{untouched, replaced, whole}
 use Rattle.image.proofs.CellBytes.{limit, length-bytes, cells-bytes, cells-back, bytes_back, cells-below}
 use Rattle.preset.specs.Written.{record_lines, records_for, text_of}
-use Rattle.preset.specs.Preset.{load_preset, preset_text, Written, written}
+use Rattle.preset.specs.Preset.{load_preset, preset_text, Writing, Written, written}
 use Rattle.preset.specs.Form.{WritersForm, FormLines}
-use Rattle.preset.specs.Promises.{Ram, Kept, AllReplaced, Length, OneWriting, InBuffer, ReadBack, WrittenBack, FormExactly, SomeForm}
+use Rattle.preset.specs.Promises.{Ram, Kept, AllReplaced, Length, OneWriting, OneReply, InBuffer, ReadBack, WrittenBack, FormExactly, SomeForm}
 use Rattle.preset.proofs.Buffers.{length-preset, is-written}
 use Rattle.preset.proofs.RoundTrip.{lines-found, image-read-back}
 use Rattle.preset.proofs.InForm.{lines-form}
@@ -33,6 +35,16 @@ pub one-writing : OneWriting
 one-writing ram buffer x y a b p q =
     let e : written x a ≡ written y b = p ∙ sym q in
     (ap (λ (w : Written). record { number = w.number; length = w.length }) e, ap (λ (w : Written). w.buffer) e)
+
+pub one-reply : OneReply
+one-reply (Ok length) (Ok other) e =
+    let same : length ≡ other = ap (λ (w : Writing). w.length) e in
+    λ i. Ok (same i)
+one-reply (Ok length) (Err s) e = absurd (not_0 s (sym (ap (λ (w : Writing). w.number) e)))
+one-reply (Err r) (Ok other) e = absurd (not_0 r (ap (λ (w : Writing). w.number) e))
+one-reply (Err r) (Err s) e =
+    let same : r ≡ s = one_number (ap (λ (w : Writing). w.number) e) in
+    λ i. Err (same i)
 
 pub in_buffer : InBuffer
 in_buffer ram buffer n h =

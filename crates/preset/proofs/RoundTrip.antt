@@ -15,7 +15,7 @@ use Rattle.image.specs.Lines.{lines}
 use Rattle.image.specs.Record.{Record}
 use Rattle.image.specs.IntelHex.{ending, formed, said, record_head, data_part, intel_hex}
 use Rattle.image.specs.Image.{given, give, missing, walked, at, walk}
-use Rattle.image.specs.declared.record.RecordHead.{RecordHead}
+use Rattle.image.specs.IntelHex.{RecordHead}
 use Rattle.image.proofs.Giving.{give-free}
 use Rattle.image.proofs.Proper.{Good, lines-joined}
 use Rattle.image.proofs.Walking.{walk-on, walk-closed}

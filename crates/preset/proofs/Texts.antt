@@ -3,9 +3,8 @@ use mathlib.Core.Path.{◌≡◌, refl, sym, ap, ◌∙◌}
 use mathlib.Core.List.{List, [], ◌∷◌, ◌++◌, append-nil}
 use Prim.Native.Nat.{ℕ, zero, suc, ◌+◌, ◌-◌, ◌*◌, ◌<◌, ◌≤◌, min}
 use native.Mathlib.Omega.{arith}
-use native.Mathlib.Nat.{zero-min, min-zero, suc-min-suc}
 use lib.ListN.{length, take, drop, length-append, length-take, length-drop}
-use lib.Seq.{sets, take-nil, drop-drop}
+use lib.Seq.{sets}
 use Rattle.image.specs.Hexadecimal.{total}
 use Rattle.image.specs.Quoted.{quoted}
 use Rattle.image.specs.Lines.{joined}
@@ -18,69 +17,62 @@ pub end-record : record_line 1 0 [] ≡ end_line
 unfolding record_line end_line quoted spelled capital total
 end-record = refl
 
--- the text of what stands from a place on
+-- the text of the bytes that are left, from an address on
 abbrev pub left : List ℕ → ℕ → List ℕ
-left bs from = joined (record_lines (records_for (length bs - from)) from (drop from bs))
+left rest address = joined (record_lines (records_for (length rest)) address rest)
 
 pub left-all : (bs : List ℕ) → text_of bs ≡ left bs 0
 unfolding text_of
-left-all bs =
-    let n : length bs - 0 ≡ length bs = omega arith in
-    rw n
+left-all bs = refl
 
--- the bytes of the next record: sixteen, or as many as there are
-taken : (n : ℕ) (l : List ℕ) → take (min (length l) n) l ≡ take n l
-taken n [] = rw (zero-min n) (sym (take-nil n))
-taken zero (x ∷ l) = rw min-zero
-taken (suc n) (x ∷ l) = rw suc-min-suc (ap (λ (t : List ℕ). x ∷ t) (taken n l))
+-- a part of so many bytes, or of as many as there are, is cut off
+cut : (n : ℕ) (part more : List ℕ) → length part ≡ min n (length part + length more) → (take n (part ++ more) ≡ part) × (drop n (part ++ more) ≡ more)
+cut zero [] more e = (refl, refl)
+cut zero (x ∷ part) more e = absurd (omega arith)
+cut (suc n) [] [] e = (refl, refl)
+cut (suc n) [] (y ∷ more) e = absurd (omega arith)
+cut (suc n) (x ∷ part) more e =
+    let p = cut n part more (omega arith) in
+    (ap (λ (t : List ℕ). x ∷ t) p.0, p.1)
 
-module _ (bs : List ℕ) (from : ℕ) where
-  module _ (h : from < length bs) (size : ℕ) (e : size ≡ min (length bs - from) 16) where
-    abbrev here : List ℕ
-    here = take size (drop from bs)
+module _ (rest part more : List ℕ) (address : ℕ) (e : rest ≡ part ++ more) (h : length part ≡ min 16 (length rest)) (some : 0 < length rest) where
+  lengths : length rest ≡ length part + length more
+  lengths = ap (λ (l : List ℕ). length l) e ∙ length-append part more
 
-    left-next : left bs from ≡ record_line 0 from here ++ left bs (from + 16)
-    unfolding record_lines joined
-    left-next =
-        let n : records_for (length bs - from) ≡ suc (records_for (length bs - (from + 16))) = omega arith in
-        let m : length (drop from bs) ≡ length bs - from = length-drop from bs in
-        let t : here ≡ take 16 (drop from bs) =
-        ap (λ (k : ℕ). take k (drop from bs)) (e ∙ ap (λ (j : ℕ). min j 16) (sym m)) ∙ taken 16 (drop from bs) in
-        rw (n, t, ← drop-drop 16 from bs)
+  left-next : left rest address ≡ record_line 0 address part ++ left more (address + 16)
+  unfolding record_lines joined
+  left-next =
+      let n : records_for (length rest) ≡ suc (records_for (length more)) = omega (arith, lengths) in
+      let c = cut 16 part more (omega (arith, lengths)) in
+      let t : take 16 rest ≡ part = ap (take 16) e ∙ c.0 in
+      let d : drop 16 rest ≡ more = ap (drop 16) e ∙ c.1 in
+      rw (n, t, d)
 
-    length-here : length (record_line 0 from here) ≡ 12 + 2 * size
-    length-here = omega (arith, length-line 0 from here, length-take size (drop from bs), length-drop from bs)
+  pub left-length : length (left rest address) ≡ 12 + 2 * length part + length (left more (address + 16))
+  left-length =
+      omega (arith, ap (λ (l : List ℕ). length l) left-next, length-append (record_line 0 address part) (left more (address + 16)), length-line 0 address part)
 
-    pub left-length : length (left bs from) ≡ 12 + 2 * size + length (left bs (from + 16))
-    left-length =
-        omega (arith, ap (λ (l : List ℕ). length l) left-next, length-append (record_line 0 from here) (left bs (from + 16)), length-here)
+  pub fewer : length more ≡ length rest - 16
+  fewer = omega (arith, lengths)
 
-    -- with the next record stored, what is left is stored behind it
-    pub left-stored : (text stored : List ℕ) (at : ℕ) → stored ≡ sets text at (record_line 0 from (take (from + size - from) (drop from bs)))
-        → sets text at (left bs from) ≡ sets stored (at + (12 + 2 * size)) (left bs (from + 16))
-    left-stored text stored at p =
-        let k : from + size - from ≡ size = omega arith in
-        ap (sets text at) left-next
-        ∙ sym (sets_then (record_line 0 from here) (left bs (from + 16)) text at (at + (12 + 2 * size)) (omega (arith, length-here)))
-        ∙ ap (λ (l : List ℕ). sets l (at + (12 + 2 * size)) (left bs (from + 16)))
-        (ap (λ (n : ℕ). sets text at (record_line 0 from (take n (drop from bs)))) (sym k) ∙ sym p)
+  -- with the next record stored, what is left is stored behind it
+  pub left-stored : (text stored : List ℕ) (at behind : ℕ) → stored ≡ sets text at (record_line 0 address part) → behind ≡ at + 12 + 2 * length part
+      → sets text at (left rest address) ≡ sets stored behind (left more (address + 16))
+  left-stored text stored at behind p q =
+      ap (sets text at) left-next
+      ∙ sym (sets_then (record_line 0 address part) (left more (address + 16)) text at behind (omega (arith, length-line 0 address part)))
+      ∙ ap (λ (l : List ℕ). sets l behind (left more (address + 16))) (sym p)
 
-  module _ (h : length bs ≤ from) where
-    left-done : left bs from ≡ record_line 1 0 []
-    unfolding record_lines joined
-    left-done =
-        let n : records_for (length bs - from) ≡ 0 = omega arith in
-        rw (n, end-record) (append-nil end_line)
+-- of no bytes the end record is left
+module _ (rest : List ℕ) (address : ℕ) (h : length rest ≡ 0) where
+  pub left-done : left rest address ≡ record_line 1 0 []
+  unfolding record_lines joined
+  left-done =
+      let n : records_for (length rest) ≡ 0 = omega arith in
+      rw (n, end-record) (append-nil end_line)
 
-    pub end-length : length (left bs from) ≡ 12
-    end-length = omega (arith, ap (λ (l : List ℕ). length l) left-done, length-line 1 0 [])
-
-    -- of all bytes no more are left than none
-    pub end-stored : (text stored : List ℕ) (at : ℕ) → stored ≡ sets text at (record_line 1 0 (take (length bs - length bs) (drop (length bs) bs)))
-        → sets text at (left bs from) ≡ stored
-    end-stored text stored at p =
-        let k : length bs - length bs ≡ 0 = omega arith in
-        ap (sets text at) left-done ∙ ap (λ (n : ℕ). sets text at (record_line 1 0 (take n (drop (length bs) bs)))) (sym k) ∙ sym p
+  pub end-length : length (left rest address) ≡ 12
+  end-length = omega (arith, ap (λ (l : List ℕ). length l) left-done, length-line 1 0 [])
 
 pub length-lines : (records address : ℕ) (bs : List ℕ) → length bs ≤ 16 * records → length (joined (record_lines records address bs)) ≡ 2 * length bs + 12 * records + 12
 unfolding record_lines joined

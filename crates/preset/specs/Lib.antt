@@ -1,4 +1,5 @@
 pub mod Written
 pub mod Preset
+pub mod Replies
 pub mod Form
 pub mod Promises

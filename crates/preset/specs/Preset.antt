@@ -4,7 +4,6 @@ use Rattle.device.specs.Device.{upd77p20}
 use Rattle.image.specs.IntelHex.{intel_hex}
 use Rattle.image.specs.Image.{cell_bytes, Loaded, load}
 use Rattle.preset.specs.Written.{text_of}
-use Rattle.preset.specs.declared.writing.Writing.{Writing}
 
 -- "Loading follows E1", with the RAM as the image
 abbrev pub load_preset : List ℕ → List ℕ → Loaded
@@ -12,6 +11,11 @@ load_preset text ram = load intel_hex 2 upd77p20.ram text ram
 
 abbrev pub preset_text : List ℕ → List ℕ
 preset_text ram = text_of (cell_bytes 2 ram)
+
+-- how a text was written: 0 and its length, or the refusal and 0
+pub record Writing : Type 0 where
+  pub number : ℕ
+  pub length : ℕ
 
 -- what a call leaves: 0 and the text's length, or the refusal and 0, and the lent buffer
 pub record Written : Type 0 where

@@ -1,13 +1,14 @@
 -- What is promised of presets.
-use Rattle.std.specs.Prelude.{◌≡◌, List, ℕ, ◌+◌, ◌*◌, ◌<◌, ◌≤◌, length, take, drop}
+use Rattle.std.specs.Prelude.{◌≡◌, Result, List, ℕ, ◌+◌, ◌*◌, ◌<◌, ◌≤◌, length, take, drop}
 use Rattle.numbers.specs.Every.{Every}
 use Rattle.device.specs.Device.{upd77p20}
 use Rattle.image.specs.IntelHex.{intel_hex}
 use Rattle.image.specs.Image.{at, cells, loaded, load}
 use Rattle.preset.specs.Written.{records_for, text_of}
-use Rattle.preset.specs.Preset.{load_preset, preset_text, written, write_preset}
+use Rattle.preset.specs.Preset.{load_preset, preset_text, Writing, written, write_preset}
+use Rattle.preset.specs.Replies.{writing_of}
 use Rattle.preset.specs.Form.{WritersForm}
-use Rattle.preset.specs.declared.writing.Writing.{Writing}
+use Rattle.refusals.specs.declared.Refusal.{Refusal}
 
 -- the cells of a RAM, as the chip has them
 abbrev pub Ram : List ℕ → Type 0
@@ -31,6 +32,10 @@ Length = (ram : List ℕ) → length ram ≡ upd77p20.ram → length (preset_tex
 abbrev pub OneWriting : Type 0
 OneWriting =
     (ram buffer : List ℕ) (x y : Writing) (a b : List ℕ) → written x a ≡ write_preset ram buffer → written y b ≡ write_preset ram buffer → (x ≡ y) × (a ≡ b)
+
+-- and no two replies of the code say the same
+abbrev pub OneReply : Type 0
+OneReply = (x y : Result ℕ Refusal) → writing_of x ≡ writing_of y → x ≡ y
 
 -- what the writer leaves in a buffer with room for it: the text and what was behind it
 abbrev pub InBuffer : Type 0

@@ -1,10 +1,7 @@
 -- `load_cells`: a part of the room, all of it not given yet.
-use Rattle.std.proofs.Common.{◌≡◌, ◌-◌, ◌*◌, length, arith}
-use Rattle.image.proofs.Loads.{take-replicate}
+use Rattle.std.proofs.Common.{◌*◌, None, arith}
+use Rattle.std.proofs.lemmas.List.{take-replicate}
 use Rattle.image.proofs.filling.load_cells.Goals as goal
 
-pub load_with-requires : goal.load_with-requires
-load_with-requires c =
-    let n = 2 * length c.args.image.now in
-    let all : n - 0 ≡ n = omega arith in
-    rw all (take-replicate n 1024 (omega arith))
+pub load-requires : goal.load-requires
+load-requires c = take-replicate (2 * c.min-size.result) 1024 None (omega arith)

@@ -1,13 +1,12 @@
 -- `give`: what is left to give, on what was given so far, makes the whole.
-use Rattle.std.proofs.Common.{◌≡◌, ◌+◌, ◌-◌, ◌≤◌, length, drop}
+use Rattle.std.proofs.Common.{◌≡◌}
 use Rattle.image.specs.Hexadecimal.{bytes_of}
 use Rattle.image.specs.Image.{give}
+use Rattle.image.specs.Replies.{marks}
 use Rattle.image.proofs.text.give.Given as goal
 
-abbrev pub invariant-loop-i : goal.invariant-loop-i
-invariant-loop-i l =
-    (l.i ≤ l.n) × (l.n ≡ length l.characters) × (length l.given ≡ length l.fn.given) × (l.address ≤ l.start + l.i)
-    × (give l.start (bytes_of l.characters) l.fn.given ≡ give l.address (bytes_of (drop l.i l.characters)) l.given)
-
-abbrev pub decreases-loop-i : goal.decreases-loop-i
-decreases-loop-i l = l.n - l.i
+abbrev pub invariant-loop-byte : goal.invariant-loop-byte
+invariant-loop-byte l =
+    (goal.iterator-loop-byte).can_next l.byte-iterator
+    × (goal.iterator-loop-byte).is_finite l.byte-iterator
+    × (give l.start (bytes_of l.characters) (marks l.fn.given) ≡ give l.address (bytes_of l.byte-iterator.0.now) (marks l.given))

@@ -1,79 +1,45 @@
--- `walk`: the records that are left, on what was given so far, make the whole; a line has at least one character, so that lines can be counted.
-use Rattle.std.proofs.Common.{refl, sym, ap, ◌∙◌, arith}
-use Rattle.image.specs.declared.text.Loading.{Loading}
-use Rattle.image.specs.Image.{walked}
-use Rattle.image.proofs.Walking.{here-within, here-some, data-within, text-refused, text-last, text-on, text-outside, walk-over}
+-- `walk`: the lines that are left, on what was given so far, make the whole; a line has at least one character, so that lines can be counted.
+use Rattle.std.proofs.Common.{◌+◌, ◌==◌, Bool, List, ℕ, length, refl, sym, ap, ◌∙◌, arith}
+use Rattle.refusals.specs.Refusals.{number_of}
+use Rattle.image.specs.Lines.{lines}
+use Rattle.image.specs.Image.{Loading, walked, ended}
+use Rattle.image.specs.Replies.{type_of, marks}
+use Rattle.image.proofs.Lines.{lines-count}
+use Rattle.refusals.proofs.Numbers.{not_0}
+use Rattle.image.proofs.Walking.{text-stop, text-end, text-on, walk-over, some-next}
 use Rattle.image.proofs.text.walk.Goals as goal
 
-pub returns-then-number-ne0 : goal.returns-then-number-ne0
-returns-then-number-ne0 c =
-    let now = c.loop-at in
-    let here = c.line_from-here in
-    let head = c.record_head-head in
-    let turn =
-    text-refused c.args.text.now now.at c.loop-at-test.true here.result.now here.ensures now.line
-    now.given head.result head.ensures c.if-number-ne0.true in
-    ap (λ (end : Loading). walked end now.given) c.ending_at.ensures
-    ∙ sym (now.invariant.4 ∙ turn)
+pub loop-here-init : goal.loop-here-init
+loop-here-init c = (omega (arith, lines-count c.args.text.now), refl)
 
-pub returns-then-kind-eq1 : goal.returns-then-kind-eq1
-returns-then-kind-eq1 c =
-    let now = c.loop-at in
-    let here = c.line_from-here in
-    let head = c.record_head-head in
-    let turn =
-    text-last c.args.text.now now.at c.loop-at-test.true here.result.now here.ensures now.line
-    now.given head.result head.ensures c.if-number-ne0.false c.if-kind-eq1.true in
-    ap (λ (end : Loading). walked end now.given) c.ended.ensures
-    ∙ sym (now.invariant.4 ∙ turn)
-
-pub data_characters-requires : goal.data_characters-requires
-data_characters-requires c =
-    let now = c.loop-at in
-    let here = c.line_from-here in
-    let head = c.record_head-head in
-    data-within c.args.text.now now.at c.loop-at-test.true here.result.now here.ensures now.line
-    now.given head.result head.ensures c.if-number-ne0.false
-
-pub returns-then-fault-ne0 : goal.returns-then-fault-ne0
-returns-then-fault-ne0 c =
-    let now = c.loop-at in
-    let here = c.line_from-here in
-    let head = c.record_head-head in
-    let turn =
-    text-outside c.args.text.now now.at c.loop-at-test.true here.result.now here.ensures now.line
-    now.given head.result head.ensures c.if-number-ne0.false c.if-kind-eq1.false c.data_characters.result.now
-    c.data_characters.ensures.content _ _ c.give-fault.ensures c.if-fault-ne0.true in
-    ap (λ (end : Loading). walked end c.give-fault.new.given) c.ending_at-then-fault-ne0.ensures
-    ∙ sym (now.invariant.4 ∙ turn)
-
-pub loop-at-smaller : goal.loop-at-smaller
-loop-at-smaller c =
-    let now = c.loop-at in
-    let here = c.line_from-here in
-    omega (
-      arith,
-      here-some c.args.text.now now.at c.loop-at-test.true here.result.now here.ensures,
-      here-within c.args.text.now now.at c.loop-at-test.true here.result.now here.ensures,
+pub loop-here-preserved : goal.loop-here-preserved
+loop-here-preserved c =
+    let now = c.loop-here in
+    let cut = c.in-Some.ensures.steps in
+    let last = c.in-Ok-Data.ensures.last ∙ ap (λ kind. type_of kind == 1) c.in-Ok-Data.field-0-is in (
+      omega (arith, now.invariant.0, ap (λ (ls : List (List ℕ)). length ls) cut),
+      now.invariant.1 ∙ text-on now.line _ _ c.in-Some.here.now (marks now.given) cut 0 _ c.in-Ok-Data.ensures.put refl last,
     )
 
-pub loop-at-preserved : goal.loop-at-preserved
-loop-at-preserved c =
-    let now = c.loop-at in
-    let here = c.line_from-here in
-    let head = c.record_head-head in (
-      here-within c.args.text.now now.at c.loop-at-test.true here.result.now here.ensures,
-      refl,
-      omega (arith, here-some c.args.text.now now.at c.loop-at-test.true here.result.now here.ensures),
-      omega (arith, c.give-fault.auto.given),
-      now.invariant.4
-          ∙ text-on c.args.text.now now.at c.loop-at-test.true here.result.now here.ensures now.line
-          now.given head.result head.ensures c.if-number-ne0.false c.if-kind-eq1.false c.data_characters.result.now
-          c.data_characters.ensures.content _ _ c.give-fault.ensures c.if-fault-ne0.false,
-    )
+pub returns-in-Ok-End : goal.returns-in-Ok-End
+returns-in-Ok-End c =
+    let now = c.loop-here in
+    let cut = c.in-Some.ensures.steps in
+    let last = c.in-Ok-End.ensures.last ∙ ap (λ kind. type_of kind == 1) c.in-Ok-End.field-0-is in
+    let g = marks c.take_line.new.given in
+    let after = c.is_some.ensures ∙ some-next c.next-in-Ok-End.result (lines c.next.new.self.0.now) _ (λ x. x.now) c.next-in-Ok-End.ensures.steps in
+    ap (λ (end : Loading). walked end g) (c.ended.ensures ∙ ap (λ (b : Bool). ended (now.line + 1) b g) after)
+    ∙ sym (now.invariant.1 ∙ text-end now.line _ _ c.in-Some.here.now (marks now.given) cut 0 _ c.in-Ok-End.ensures.put refl last)
+
+pub returns-in-Err : goal.returns-in-Err
+returns-in-Err c =
+    let now = c.loop-here in
+    let r = c.in-Err.refusal in
+    sym (now.invariant.1 ∙ text-stop now.line _ _ c.in-Some.here.now (marks now.given) c.in-Some.ensures.steps (number_of r) _ c.in-Err.ensures.put
+    (not_0 r))
 
 pub returns : goal.returns
 returns c =
-    let now = c.loop-at in
-    ap (λ (end : Loading). walked end now.given) c.unended.ensures
-    ∙ sym (now.invariant.4 ∙ walk-over c.args.text.now now.at now.line now.given c.loop-at-test.false)
+    let now = c.loop-here in
+    ap (λ (end : Loading). walked end (marks now.given)) c.unended.ensures
+    ∙ sym (now.invariant.1 ∙ walk-over now.line _ (marks now.given) c.in_default.ensures.steps.0)
