@@ -9,7 +9,6 @@ use lib.IntN.{pos, negsuc, ◌+ℤ◌}
 use lib.ListN.{length}
 use Rattle.numbers.specs.Signed.{signed}
 use Rattle.numbers.specs.Held.{held}
-use Rattle.numbers.proofs.Whole.{up, down}
 use Rattle.numbers.proofs.Signed.{ud-signed}
 use Rattle.numbers.proofs.Held.{held-within}
 use Rattle.alu.specs.Answer.{answer}
@@ -32,7 +31,7 @@ pub mix-answer : (large : Bool) (r : Registers) (trb : ℕ) (calls : List Call) 
 mix-answer large r trb calls ps clear unreset alone e n = ap answer (calls-mix large r trb calls unreset alone ∙ ap (λ x. summed (accumulator_a r) (ms x)) e) ∙ sums-held (accumulator_a r) (ms ps) clear n
 
 pub no-adds : NoAdds
-unfolding whole_sum up down
+unfolding whole_sum
 no-adds large r trb calls clear unreset alone e =
     let s = ud-signed r.a in
     mix-answer large r trb calls [] clear unreset alone e (omega arith) ∙ held-within (negsuc 32767) (pos 32767) (signed r.a) (omega arith) (omega arith)

@@ -7,7 +7,7 @@ use mathlib.Core.Bool.{true, false, true≢false}
 use lib.IntN.{pos, negsuc}
 use Rattle.numbers.specs.Signed.{signed, leaves, floor_div, floor_mod}
 use Rattle.numbers.specs.Held.{held}
-use Rattle.numbers.proofs.Whole.{down}
+use borrow.Author.Differences.{down}
 use Rattle.alu.specs.Flags.{sum_flags}
 use Rattle.alu.specs.Operations.{plus, operated}
 use Rattle.alu.specs.Answer.{answer}
@@ -39,11 +39,9 @@ adds e = absurd (true≢false e)
 
 -- a number other than -32768 is not both
 other : (n : ℕ) {A : Type 0} → (n ≡ 32767 → ⊥) → A × (negsuc n ≡ negsuc 32767) → ⊥
-unfolding down
 other n h e = h (let k = ap down e.1 in omega arith)
 
 positive : (n : ℕ) {A : Type 0} → A × (pos n ≡ negsuc 32767) → ⊥
-unfolding down
 positive n e = let k = ap down e.1 in absurd (omega arith)
 
 pub examples : Examples

@@ -10,7 +10,8 @@ use lib.IntN.{ℤ, pos, negsuc, ◌+ℤ◌, ◌*ℤ◌}
 use lib.ListN.{length}
 use Rattle.numbers.specs.Signed.{signed}
 use Rattle.numbers.specs.Held.{held}
-use Rattle.numbers.proofs.Whole.{up, down, ud-add, ud-times, ud-pos, ud-le}
+use Rattle.std.proofs.lemmas.Int.{ints}
+use borrow.Author.Differences.{up, down}
 use Rattle.numbers.proofs.Held.{Holding, below, above, within, holding}
 use Rattle.alu.specs.Answer.{answer}
 use Rattle.alu.specs.declared.Accumulator.{Accumulator}
@@ -18,7 +19,7 @@ use Rattle.alu.proofs.Holding.{summed, whole_sum, sums-held}
 use Rattle.multiplier.specs.Product.{product, m_of}
 use Rattle.multiplier.proofs.Halves.{m-near}
 use Rattle.numbers.specs.Every.{Every}
-use Rattle.accuracy.specs.Exact.{Inputs, in32768ths, products, least, most, held_sum, allowance, Accurate}
+use Rattle.accuracy.specs.Exact.{Inputs, in32768ths, products, least, most, held_sum, Accurate}
 use Rattle.accuracy.specs.Demand3.{NotBoth}
 
 -- M of each pair of inputs
@@ -37,17 +38,17 @@ Near t e n = (up t * 32768 + down e ≤ up e + down t * 32768) × (up e + down t
 -- from one word to the next
 near_on : (ps : List Inputs) (t e : ℤ) (n : ℕ) → Near t e n → Every NotBoth ps → Near (whole_sum t (ms ps)) (e +ℤ products ps) (n + length ps)
 unfolding whole_sum products
-near_on [] t e n h b = omega (arith, ud-add e (pos 0), ud-pos 0)
+near_on [] t e n h b = omega (arith, ints)
 near_on (p ∷ ps) t e n h b =
     let m = signed (m_of p.k p.l) in
     let x = product p.k p.l in
     let f = m-near p.k p.l b.0 in
-    let k = near_on ps (t +ℤ m) (e +ℤ x) (suc n) (omega (arith, ud-add t m, ud-add e x)) b.1 in
-    omega (arith, ud-add e (x +ℤ products ps), ud-add x (products ps), ud-add e x, ud-add (e +ℤ x) (products ps))
+    let k = near_on ps (t +ℤ m) (e +ℤ x) (suc n) (omega (arith, ints)) b.1 in
+    omega (arith, ints)
 
 -- what is near stays near when both are held
 held-near : {t e a b : ℤ} (n : ℕ) → Near t e n → Holding (negsuc 32767) (pos 32767) t a → Holding least most e b → Near a b n
-unfolding up down in32768ths
+unfolding in32768ths
 held-near n h (below k) (below l) = omega arith
 held-near n h (below k) (above l) = omega arith
 held-near n h (below k) (within l) = omega arith
@@ -60,7 +61,7 @@ held-near n h (within k) (within l) = omega arith
 
 scaled : (z : ℤ) → Near z (in32768ths z) 0
 unfolding in32768ths
-scaled z = omega (arith, ud-times z 32768)
+scaled z = omega (arith, ints)
 
 accurate : (start : ℕ) (ps : List Inputs) (z : ℤ) → Near z (held_sum start ps) (length ps) → Accurate start ps z
 unfolding in32768ths
@@ -68,8 +69,8 @@ accurate start ps z h =
     let x = held_sum start ps in
     let y = z *ℤ pos 32768 in
     record {
-      never-below = ud-le y x (omega (arith, ud-times z 32768));
-      near = ud-le x (y +ℤ pos (allowance ps)) (omega (arith, ud-times z 32768, ud-add y (pos (allowance ps)), ud-pos (allowance ps)));
+      never-below = omega (arith, ints);
+      near = omega (arith, ints);
     }
 
 pub mix-accurate : (a : Accumulator) (ps : List Inputs) → a.flags.ov1 ≡ false → length ps ≤ 3 → Every NotBoth ps → Accurate a.value ps (answer (summed a (ms ps)))

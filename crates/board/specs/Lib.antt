@@ -1,4 +1,5 @@
 pub mod Rows
+pub mod Held
 pub mod RecordInLine
 pub mod RoundTrip
 pub mod Unique
