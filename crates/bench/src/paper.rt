@@ -1,94 +1,65 @@
 // How a line of the list is printed.
-use std::io;
+use std::{fmt, io};
 
-pub(crate) fn text(rt: &impl Print, words: &str) -> io::Result<()> {
-    print!(rt; "{words}")
+// What a line compares. A flag is as wide as a register.
+#[derive(Clone, Copy, PartialEq)]
+pub(crate) enum Value {
+    Register(u16),
+    Flag(bool),
+    Number(i64),
 }
 
-// A hexadecimal digit as the manual writes it.
-fn digit(n: u16) -> u8 {
-    if n % 16 < 10 {
-        (n % 16 + 48) as u8
-    } else {
-        (n % 16 + 55) as u8
+impl From<u16> for Value {
+    fn from(register: u16) -> Value {
+        Value::Register(register)
     }
 }
 
-fn print_register(rt: &impl Print, value: u16) -> io::Result<()> {
-    let digits = [
-        digit(value / 4096),
-        digit(value / 256),
-        digit(value / 16),
-        digit(value),
-    ];
-    for it in digits {
-        print!(rt; "{}", char::from(it))?;
-    }
-    text(rt, "H")
-}
-
-fn print_flag(rt: &impl Print, value: bool) -> io::Result<()> {
-    if value {
-        text(rt, "1    ")
-    } else {
-        text(rt, "0    ")
+impl From<bool> for Value {
+    fn from(flag: bool) -> Value {
+        Value::Flag(flag)
     }
 }
 
-fn heading(rt: &impl Print, case: u64, name: &str) -> io::Result<()> {
-    if case < 10 {
-        text(rt, "  ")?;
-    } else {
-        text(rt, " ")?;
-    }
-    print!(rt; "{case}   {name}  ")
-}
-
-fn verdict(rt: &impl Print, agrees: bool) -> io::Result<()> {
-    if agrees {
-        text(rt, "  agrees\n")
-    } else {
-        text(rt, "  DIFFERS\n")
+impl From<i64> for Value {
+    fn from(number: i64) -> Value {
+        Value::Number(number)
     }
 }
 
-// One line of the list each. A name is as long as the heading's.
-pub(crate) fn register(
+impl fmt::Display for Value {
+    fn fmt<W: fmt::Write>(&self, f: &mut fmt::Formatter<W>) -> fmt::Result {
+        match *self {
+            Value::Register(register) => write!(f, "{register:04X}H"),
+            Value::Flag(flag) => write!(f, "{:<5}", u8::from(flag)),
+            Value::Number(number) => write!(f, "{number}"),
+        }
+    }
+}
+
+pub(crate) fn heading(rt: &impl Print) -> io::Result<()> {
+    rt.println("case  what                        expected  found")
+}
+
+// One line of the list.
+pub(crate) fn line<T: Into<Value>>(
     rt: &impl Print,
-    case: u64,
-    name: &str,
-    expected: u16,
-    found: u16,
+    case: u8,
+    what: &str,
+    expected: T,
+    found: T,
 ) -> io::Result<()> {
-    heading(rt, case, name)?;
-    print_register(rt, expected)?;
-    text(rt, "     ")?;
-    print_register(rt, found)?;
-    verdict(rt, expected == found)
+    let expected: Value = expected.into();
+    let found: Value = found.into();
+    let verdict = if expected == found {
+        "agrees"
+    } else {
+        "DIFFERS"
+    };
+    println!(rt; "{case:>3}   {what:<26}  {expected}     {found}  {verdict}")
 }
 
-pub(crate) fn flag(
-    rt: &impl Print,
-    case: u64,
-    name: &str,
-    expected: bool,
-    found: bool,
-) -> io::Result<()> {
-    heading(rt, case, name)?;
-    print_flag(rt, expected)?;
-    text(rt, "     ")?;
-    print_flag(rt, found)?;
-    verdict(rt, expected == found)
-}
-
-pub(crate) fn number(
-    rt: &impl Print,
-    case: u64,
-    name: &str,
-    expected: u64,
-    found: u64,
-) -> io::Result<()> {
-    heading(rt, case, name)?;
-    print!(rt; "{expected}     {found}")?;
-    verdict(rt, expected == found)
+// The line of a word that is not of the row expected.
+pub(crate) fn other_row(rt: &impl Print, case: u8, what: &str) -> io::Result<()> {
+    println!(rt; "{case:>3}   {what:<22}  DIFFERS")
 }
