@@ -73,8 +73,8 @@ fn interrupt_event<C: Chip>(r: Registers, trb: u16) -> AfterEvent
     finish(0, r, trb)
 }
 
-// One call: one event of a kind with a value. Registers and TRB go side by side from here, and the events in one match: as a `State`, or in a function of
-// their own, they take a dozen instructions a word more (docs/SPEED.md, "Forms").
+// One call: one event of a kind with a value. The events stand in one match: in a function of their own they take a dozen instructions a word more
+// (docs/SPEED.md, "Forms").
 #[tactic(auto, unfolding(crate::specs::Events::event_done, crate::specs::Events::kind_done))]
 pub fn event<C: Chip>(state: State, images: Images, ram: &mut [u16], event: Event) -> AfterEvent
     ensures { ending result ram.new ≡ spec.event_done C.LARGE state.registers state.trb images.entry.program.now images.entry.rom.now ram.old event.kind event.value }

@@ -7,7 +7,7 @@ use crate::replies::AfterEvent;
 use device::{Chip, Registers};
 use words::{Images, State};
 
-// So many words, or those before the first that is refused. Registers and TRB go on side by side, as in `event`.
+// So many words, or those before the first that is refused.
 pub(crate) fn run<C: Chip>(
     registers: Registers,
     before: u16,
