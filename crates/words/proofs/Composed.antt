@@ -81,6 +81,18 @@ module _ (large rt : Bool) (r : Registers) (trb : ℕ) (f : OpFields) (ram rom :
       rw (e₅, e₄, e₃, ea, e₂, e₁, et, eb, s, d, code)
       ((λ i. finished_word (pc_moved large rt (op-staged large r trb f ram rom i)) (op_trb large r trb f ram rom) (op-stored large r trb f ram rom i)) ∙ op-finished large rt r trb f ram rom number none)
 
+-- ---- a JP word
+
+pub jp-unused : (large : Bool) (r : Registers) (trb : ℕ) (word : Word) (ram : List ℕ) → branch_unknown word ≡ false → unused_bits word ≡ true → refused_word 18 r trb ram ≡ jp_word large r trb word ram
+unfolding jp_word jp_refusal
+jp-unused large r trb word ram k u = rw (k, u)
+
+-- which bits are unused, where it is known whether a condition is asked
+pub unused-of : (large : Bool) (w : ℕ) (u : Bool) → unconditional (jump_of large w) ≡ u
+    → unused_bits (jump_of large w) ≡ cond large (not (eqb (code_fields w).spare 0)) (not (eqb (jp_fields w).spare 0) || (u && not (eqb (jp_fields w).cnd 0)))
+unused-of true w u e = refl
+unused-of false w u e = rw e
+
 -- ---- which row
 
 -- a word is narrow enough where its fields above DPH-M are
