@@ -4,7 +4,7 @@ use mathlib.Core.Path.{◌≡◌, refl, sym, ap, ◌∙◌}
 use Rattle.std.specs.Prelude.{[], ◌∷◌, slice_index_or, Result, Ok, Err}
 use Rattle.refusals.specs.declared.Refusal.{Refusal}
 use Rattle.events.specs.Events.{event_of, asked}
-use Rattle.events.specs.Unique.{OneInput}
+use Rattle.events.specs.Unique.{OneInput, OneAsked}
 use Rattle.events.specs.declared.input.Event.{Event}
 use Rattle.events.specs.declared.input.Input.{Input}
 use Rattle.events.specs.declared.input.Input.TheVariants.{Run, HostRead, HostWrite, HostStatus, SerialIn, SerialOut, Interrupt, Reset}
@@ -34,3 +34,6 @@ back (Err refusal) = refl
 
 pub one-input : OneInput
 one-input x y e = sym (back x) ∙ ap read_back e ∙ back y
+
+pub one-asked : OneAsked
+one-asked event x y e₁ e₂ = one-input x y (e₁ ∙ sym e₂)

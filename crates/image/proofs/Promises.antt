@@ -10,15 +10,22 @@ use borrow.Author.Tests.{eqb-true, eqb-false}
 use Rattle.image.specs.Lines.{lines, onto, joined}
 use Rattle.image.specs.IntelHex.{intel_hex}
 use Rattle.image.specs.Image.{Walked, walk, Loaded, loaded, at}
-use Rattle.image.specs.Promises.{OneAnswer, Untouched, Replaced, Whole}
+use Rattle.image.specs.Replies.{loading_of}
+use Rattle.image.specs.Promises.{OneAnswer, OneLoad, Untouched, Replaced, Whole}
 use Rattle.image.proofs.Walking.{records}
 use Rattle.image.proofs.Loads.{blank, outcome, outcome-is}
+use Rattle.image.proofs.Replies.{one-loading}
 
 -- what a call leaves is its number, its line and its image
 pub one_answer : OneAnswer
 one_answer width size text image x y a b p q =
     let e : loaded x a ≡ loaded y b = p ∙ sym q in
     (ap (λ (l : Loaded). at l.line l.number) e, ap (λ (l : Loaded). l.image) e)
+
+pub one-load : OneLoad
+one-load width size text image x y a b p q =
+    let same = one_answer width size text image (loading_of x) (loading_of y) a b p q in
+    (one-loading x y same.0, same.1)
 
 untouched-if : (width size : ℕ) (image : List ℕ) (w : Walked) (fits good : Bool) → eqb w.number 0 ≡ good
     → ((outcome width size image w fits good).number ≡ 0 → ⊥) → (outcome width size image w fits good).image ≡ image

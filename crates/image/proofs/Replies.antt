@@ -1,14 +1,14 @@
 -- No two replies say the same. Assumes nothing.
 use Prim.Native.Nat.{ℕ}
 use native.Mathlib.Omega.{arith}
-use mathlib.Core.Path.{◌≡◌, refl, sym, ap}
+use mathlib.Core.Path.{◌≡◌, refl, sym, ap, ◌∙◌}
 use Rattle.std.specs.Prelude.{Result, Ok, Err, IsErrAnd}
 use Rattle.refusals.specs.Refusals.{number_of}
 use Rattle.refusals.proofs.Numbers.{one_number, not_0}
 use Rattle.image.specs.IntelHex.{RecordHead}
 use Rattle.image.specs.Image.{Loading, at}
 use Rattle.image.specs.Replies.{type_of, loading_of}
-use Rattle.image.specs.Promises.{OneLoading, OneHead}
+use Rattle.image.specs.Promises.{OneLoading, OneHead, OneRead}
 use Rattle.image.specs.declared.record.RecordType.{RecordType}
 use Rattle.image.specs.declared.record.RecordType.TheVariants.{Data, End}
 use Rattle.image.specs.declared.text.Fault.{Fault}
@@ -42,3 +42,6 @@ one-head (Err r) (Ok k) e = absurd (not_0 r (ap (λ (r : RecordHead). r.number) 
 one-head (Err r) (Err s) e =
     let same : r ≡ s = one_number (ap (λ (h : RecordHead). h.number) e) in
     λ i. Err (same i)
+
+pub one-read : OneRead
+one-read line x y e₁ e₂ = one-head x y (e₁ ∙ sym e₂)

@@ -2,7 +2,7 @@
 use Rattle.std.specs.Prelude.{◌≡◌, Result, Bool, cond, ◌&&◌, ℕ, ◌+◌, ◌-◌, length, take, nat_le}
 use mathlib.Core.List.{List, [], ◌∷◌, ◌++◌, map, Permᴰ}
 use Rattle.image.specs.Lines.{line_feed, carriage_return, lines, joined}
-use Rattle.image.specs.IntelHex.{ending, intel_hex}
+use Rattle.image.specs.IntelHex.{ending, record_head, intel_hex}
 use Rattle.image.specs.Image.{Loading, loaded, load}
 use Rattle.image.specs.Replies.{head_of, loading_of}
 use Rattle.image.specs.declared.record.RecordHead.{RecordHead as Head}
@@ -21,6 +21,16 @@ OneLoading = (x y : Result ℕ Fault) → loading_of x ≡ loading_of y → x �
 
 abbrev pub OneHead : Type 0
 OneHead = (x y : Result Head Refusal) → head_of x ≡ head_of y → x ≡ y
+
+-- so that two answers of the code that meet the contract are equal: of one who reads a line
+abbrev pub OneRead : Type 0
+OneRead = (line : List ℕ) (x y : Result Head Refusal) → head_of x ≡ record_head line → head_of y ≡ record_head line → x ≡ y
+
+-- and of a load, and so are the images that they leave
+abbrev pub OneLoad : Type 0
+OneLoad =
+    (width size : ℕ) (text image : List ℕ) (x y : Result ℕ Fault) (a b : List ℕ)
+    → loaded (loading_of x) a ≡ load intel_hex width size text image → loaded (loading_of y) b ≡ load intel_hex width size text image → (x ≡ y) × (a ≡ b)
 
 -- "An image is filled whole or not touched": a refused one is as it was
 abbrev pub Untouched : Type 0

@@ -15,8 +15,9 @@ use Rattle.image.proofs.Promises.{untouched, replaced, whole}
 use Rattle.image.proofs.CellBytes.{limit, length-bytes, cells-bytes, cells-back, bytes_back, cells-below}
 use Rattle.preset.specs.Written.{record_lines, records_for, text_of}
 use Rattle.preset.specs.Preset.{load_preset, preset_text, Writing, Written, written}
+use Rattle.preset.specs.Replies.{writing_of}
 use Rattle.preset.specs.Form.{WritersForm, FormLines}
-use Rattle.preset.specs.Promises.{Ram, Kept, AllReplaced, Length, OneWriting, OneReply, InBuffer, ReadBack, WrittenBack, FormExactly, SomeForm}
+use Rattle.preset.specs.Promises.{Ram, Kept, AllReplaced, Length, OneWriting, OneReply, OneWritten, InBuffer, ReadBack, WrittenBack, FormExactly, SomeForm}
 use Rattle.preset.proofs.Buffers.{length-preset, is-written}
 use Rattle.preset.proofs.RoundTrip.{lines-found, image-read-back}
 use Rattle.preset.proofs.InForm.{lines-form}
@@ -45,6 +46,11 @@ one-reply (Err r) (Ok other) e = absurd (not_0 r (ap (λ (w : Writing). w.number
 one-reply (Err r) (Err s) e =
     let same : r ≡ s = one_number (ap (λ (w : Writing). w.number) e) in
     λ i. Err (same i)
+
+pub one-written : OneWritten
+one-written ram buffer x y a b p q =
+    let same = one-writing ram buffer (writing_of x) (writing_of y) a b p q in
+    (one-reply x y same.0, same.1)
 
 pub in_buffer : InBuffer
 in_buffer ram buffer n h =

@@ -37,6 +37,12 @@ OneWriting =
 abbrev pub OneReply : Type 0
 OneReply = (x y : Result ℕ Refusal) → writing_of x ≡ writing_of y → x ≡ y
 
+-- so that two replies of the code that meet the writer's contract are equal, and so are the buffers that they leave
+abbrev pub OneWritten : Type 0
+OneWritten =
+    (ram buffer : List ℕ) (x y : Result ℕ Refusal) (a b : List ℕ)
+    → written (writing_of x) a ≡ write_preset ram buffer → written (writing_of y) b ≡ write_preset ram buffer → (x ≡ y) × (a ≡ b)
+
 -- what the writer leaves in a buffer with room for it: the text and what was behind it
 abbrev pub InBuffer : Type 0
 InBuffer =

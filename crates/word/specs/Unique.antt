@@ -17,3 +17,12 @@ OneWord = (large : Bool) (x y : Result Word Refusal) → number_and_word large x
 
 abbrev pub OneBits : Type 0
 OneBits = (x y : Result ℕ Refusal) → number_and_bits x ≡ number_and_bits y → x ≡ y
+
+-- so that two answers of the code that meet the contract are equal
+abbrev pub OneTakenApart : Type 0
+OneTakenApart =
+    (large : Bool) (w : ℕ) (x y : Result Word Refusal) → number_and_word large x ≡ taken_apart large w → number_and_word large y ≡ taken_apart large w → x ≡ y
+
+abbrev pub OneWordBuilt : Type 0
+OneWordBuilt =
+    (large : Bool) (word : Word) (x y : Result ℕ Refusal) → number_and_bits x ≡ built large word → number_and_bits y ≡ built large word → x ≡ y
