@@ -4,7 +4,9 @@ use mathlib.Core.List.{List, [], ◌∷◌, ◌++◌, append-nil}
 use Prim.Native.Nat.{ℕ, zero, suc, ◌+◌, ◌-◌, ◌*◌, ◌<◌, ◌≤◌, min}
 use native.Mathlib.Omega.{arith}
 use lib.ListN.{length, take, drop, length-append, length-take, length-drop}
-use lib.Seq.{sets}
+use lib.Seq.{sets, take-nil, drop-drop}
+use native.Mathlib.Nat.{zero-min, min-zero, suc-min-suc}
+use Rattle.std.proofs.lemmas.List.{take-append-drop}
 use Rattle.image.specs.Hexadecimal.{total}
 use Rattle.image.specs.Quoted.{quoted}
 use Rattle.image.specs.Lines.{joined}
@@ -35,6 +37,12 @@ cut (suc n) (x ∷ part) more e =
     let p = cut n part more (omega arith) in
     (ap (λ (t : List ℕ). x ∷ t) p.0, p.1)
 
+-- a list's first n members, or as many as there are
+taken : (n : ℕ) (l : List ℕ) → take (min (length l) n) l ≡ take n l
+taken n [] = rw (zero-min n) (sym (take-nil n))
+taken zero (x ∷ l) = rw min-zero
+taken (suc n) (x ∷ l) = rw suc-min-suc (ap (λ (t : List ℕ). x ∷ t) (taken n l))
+
 module _ (rest part more : List ℕ) (address : ℕ) (e : rest ≡ part ++ more) (h : length part ≡ min 16 (length rest)) (some : 0 < length rest) where
   lengths : length rest ≡ length part + length more
   lengths = ap (λ (l : List ℕ). length l) e ∙ length-append part more
@@ -62,6 +70,31 @@ module _ (rest part more : List ℕ) (address : ℕ) (e : rest ≡ part ++ more)
       ap (sets text at) left-next
       ∙ sym (sets_then (record_line 0 address part) (left more (address + 16)) text at behind (omega (arith, length-line 0 address part)))
       ∙ ap (λ (l : List ℕ). sets l behind (left more (address + 16))) (sym p)
+
+-- the bytes from a place on: those of the next record, and those sixteen places on
+module _ (bs : List ℕ) (from end : ℕ) (h : from < length bs) (e : end ≡ min (length bs) (from + 16)) where
+  abbrev pub here : List ℕ
+  here = take (end - from) (drop from bs)
+
+  here-and-more : drop from bs ≡ here ++ drop (from + 16) bs
+  here-and-more =
+      let rest = drop from bs in
+      let size : end - from ≡ min (length rest) 16 = omega (arith, e, length-drop from bs) in
+      let part : here ≡ take 16 rest = ap (λ (k : ℕ). take k rest) size ∙ taken 16 rest in
+      sym (take-append-drop 16 rest) ∙ ap (λ (t : List ℕ). t ++ drop 16 rest) (sym part) ∙ ap (λ (t : List ℕ). here ++ t) (drop-drop 16 from bs)
+
+  pub next-size : length here ≡ min 16 (length (drop from bs))
+  next-size = omega (arith, e, length-take (end - from) (drop from bs), length-drop from bs)
+
+  some-here : 0 < length (drop from bs)
+  some-here = omega (arith, length-drop from bs)
+
+  pub next-length : length (left (drop from bs) from) ≡ 12 + 2 * length here + length (left (drop (from + 16) bs) (from + 16))
+  next-length = left-length (drop from bs) here (drop (from + 16) bs) from here-and-more next-size some-here
+
+  pub next-stored : (text stored : List ℕ) (at behind : ℕ) → stored ≡ sets text at (record_line 0 from here) → behind ≡ at + 12 + 2 * length here
+      → sets text at (left (drop from bs) from) ≡ sets stored behind (left (drop (from + 16) bs) (from + 16))
+  next-stored = left-stored (drop from bs) here (drop (from + 16) bs) from here-and-more next-size some-here
 
 -- of no bytes the end record is left
 module _ (rest : List ℕ) (address : ℕ) (h : length rest ≡ 0) where

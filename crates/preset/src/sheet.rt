@@ -6,24 +6,27 @@ ghost use Rattle.preset.specs.Written as spec;
 
 use image::RecordType;
 
-// A digit in capitals.
+// A digit in capitals. By a comparison: `char::from_digit` keeps a text from being written many digits at a time (docs/SPEED.md, "Texts").
 #[tactic(auto, unfolding(crate::specs::Written::capital))]
 pub(crate) fn capital(digit: u8) -> u8
     requires { digit < 16 }
     ensures { result ≡ spec.capital digit }
 {
-    let digit = char::from_digit(u32::from(digit), 16).unwrap();
-    digit.to_ascii_uppercase() as u8
+    if digit < 10 {
+        b'0' + digit
+    } else {
+        b'A' + (digit - 10)
+    }
 }
 
-// The byte that makes the bytes of a record add up to 0 modulo 256.
+// The byte that makes the bytes of a record add up to 0 modulo 256. Head and data one after the other: a chain of both is walked byte by byte.
 pub(crate) fn check_byte(head: &[u8], bytes: &[u8]) -> u8
     ensures { (result + fold (λ sum byte. (sum + byte) % 256) 0 (head.now ++ bytes.now)) % 256 ≡ 0 }
 {
-    let sum = head
+    let of_head = head.iter().fold(0u8, |sum, byte| sum.wrapping_add(*byte));
+    let sum = bytes
         .iter()
-        .chain(bytes)
-        .fold(0u8, |sum, byte| sum.wrapping_add(*byte));
+        .fold(of_head, |sum, byte| sum.wrapping_add(*byte));
     sum.wrapping_neg()
 }
 
@@ -89,7 +92,7 @@ impl<'a> Sheet<'a> {
         self.put(b'\n');
     }
 
-    // The text of bytes, in records of sixteen. Addresses are counted by hand: `enumerate` counts records.
+    // The text of bytes, in records of sixteen, each by its place: of `chunks` it is not known, where a preset is written, that all have sixteen bytes.
     pub(crate) fn put_text(&mut self, bytes: &[u8])
         requires { (length bytes.now ≤ 65536) × (self.old.at + length (spec.text_of bytes.now) ≤ length self.old.text.now) }
         ensures text { self.new.text.now ≡ sets self.old.text.now self.old.at (spec.text_of bytes.now) }
@@ -97,10 +100,10 @@ impl<'a> Sheet<'a> {
         ensures room { length self.new.text.now ≡ length self.old.text.now }
         ensures same { self.new.text.ghost_name ≡ self.old.text.ghost_name }
     {
-        let mut address = 0usize;
-        for part in bytes.chunks(16) {
-            self.put_record(RecordType::Data, address as u16, part);
-            address += 16;
+        for record in 0..bytes.len().div_ceil(16) {
+            let from = 16 * record;
+            let end = bytes.len().min(from + 16);
+            self.put_record(RecordType::Data, from as u16, &bytes[from..end]);
         }
         self.put_record(RecordType::End, 0, &[]);
     }
