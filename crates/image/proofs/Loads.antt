@@ -73,4 +73,4 @@ unfolding load
 load-by form width size text other image e = rw e
 
 -- what the loads of each image use
-pub ruleset loads = (map-id)
+pub ruleset loads = (map-id, load-short)

@@ -102,7 +102,13 @@ pub fn load_program(text: &[u8], image: &mut [u32]) -> Result<usize, Fault>
 pub fn load_data(text: &[u8], image: &mut [u16]) -> Result<usize, Fault>
     ensures { spec.loaded (loading_of result) image.new ≡ spec.load intel_hex 2 upd77p20.cells text.now image.old }
 {
-    load(text, Upd77p20::CELLS as usize, &mut [None; 1024], image)
+    if image.len() != (Upd77p20::CELLS as usize) {
+        return Err(Fault {
+            refusal: Refusal::WrongLength,
+            line: 0,
+        });
+    }
+    load_cells(text, image)
 }
 
 // Fills a lent image of up to as many cells as a data ROM has.
