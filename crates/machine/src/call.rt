@@ -87,15 +87,18 @@ pub fn event<C: Chip>(state: State, images: Images, ram: &mut [u16], event: Even
     if !r.fit::<C>() {
         return refuse(Refusal::RegisterTooWide, r, trb);
     }
-    match Input::try_from(event) {
-        Ok(Input::Run(count)) => run::<C>(r, trb, images, ram, count),
-        Ok(Input::HostRead) => finish(events::byte_read(r), events::host_read(r), trb),
-        Ok(Input::HostWrite(byte)) => finish(0, events::host_write(r, byte), trb),
-        Ok(Input::HostStatus) => finish(r.sr / 0x100 % 0x100, r, trb),
-        Ok(Input::SerialIn(word)) => finish(0, events::serial_in(r, word), trb),
-        Ok(Input::SerialOut) => serial_out_event(r, trb),
-        Ok(Input::Interrupt) => interrupt_event::<C>(r, trb),
-        Ok(Input::Reset) => finish(0, events::reset_machine(r), trb),
-        Err(refusal) => refuse(refusal, r, trb),
+    let input = match Input::try_from(event) {
+        Ok(input) => input,
+        Err(refusal) => return refuse(refusal, r, trb),
+    };
+    match input {
+        Input::Run(count) => run::<C>(r, trb, images, ram, count),
+        Input::HostRead => finish(events::byte_read(r), events::host_read(r), trb),
+        Input::HostWrite(byte) => finish(0, events::host_write(r, byte), trb),
+        Input::HostStatus => finish(r.sr / 0x100 % 0x100, r, trb),
+        Input::SerialIn(word) => finish(0, events::serial_in(r, word), trb),
+        Input::SerialOut => serial_out_event(r, trb),
+        Input::Interrupt => interrupt_event::<C>(r, trb),
+        Input::Reset => finish(0, events::reset_machine(r), trb),
     }
 }
