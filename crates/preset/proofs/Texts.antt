@@ -1,7 +1,7 @@
 -- A text record by record: what is left to write, and how long it is. Assumes nothing.
 use mathlib.Core.Path.{◌≡◌, refl, sym, ap, ◌∙◌}
 use mathlib.Core.List.{List, [], ◌∷◌, ◌++◌, append-nil}
-use Prim.Native.Nat.{ℕ, zero, suc, ◌+◌, ◌-◌, ◌*◌, ◌<◌, ◌≤◌, min}
+use Prim.Native.Nat.{ℕ, zero, suc, ◌+◌, ◌-◌, ◌*◌, ◌/◌, ◌%◌, ◌<◌, ◌≤◌, min}
 use native.Mathlib.Omega.{arith}
 use lib.ListN.{length, take, drop, length-append, length-take, length-drop}
 use lib.Seq.{sets, take-nil, drop-drop}
@@ -95,6 +95,14 @@ module _ (bs : List ℕ) (from end : ℕ) (h : from < length bs) (e : end ≡ mi
   pub next-stored : (text stored : List ℕ) (at behind : ℕ) → stored ≡ sets text at (record_line 0 from here) → behind ≡ at + 12 + 2 * length here
       → sets text at (left (drop from bs) from) ≡ sets stored behind (left (drop (from + 16) bs) (from + 16))
   next-stored = left-stored (drop from bs) here (drop (from + 16) bs) from here-and-more next-size some-here
+
+-- the loop over records, of which there are as many as begun sixteens of bytes: in it bytes are left, behind it none
+module _ (bs : List ℕ) (turn records : ℕ) (e : records ≡ length bs / 16 + min 1 (length bs % 16)) where
+  pub some-left : turn < records → 16 * turn < length bs
+  some-left h = omega arith
+
+  pub none-left : records ≤ turn → length (drop (16 * turn) bs) ≡ 0
+  none-left h = omega (arith, length-drop (16 * turn) bs)
 
 -- of no bytes the end record is left
 module _ (rest : List ℕ) (address : ℕ) (h : length rest ≡ 0) where
